@@ -1,0 +1,436 @@
+//! Judges a recorded case without the original: what document 01 says of classes,
+//! patterns, figures, shown goals and lines, tested on the recorded words and text.
+use crate::pack::{Pack, decode};
+use crate::vectors::Case;
+use crate::verdict::verdict;
+use std::collections::{HashMap, HashSet};
+use std::fmt::Write as _;
+
+const NONE: u32 = u32::MAX;
+/// Head of a pattern variable.
+const VAR: u32 = u32::MAX - 1;
+
+type Judged = Result<(), String>;
+
+fn test(holds: bool, why: impl Into<String>) -> Judged {
+    if holds { Ok(()) } else { Err(why.into()) }
+}
+
+/// What is wrong with a case, if anything.
+pub fn judge(case: &Case) -> Judged {
+    let pack = decode(&case.pack).map_err(|r| format!("the pack is refused: {r}"))?;
+    test(
+        pack.encode() == case.pack,
+        "the pack is not encoded back to its bytes",
+    )?;
+    let verdict = verdict(&pack);
+    test(
+        !matches!(verdict, Some((3, _))),
+        "a step of a recorded certificate fails the step check",
+    )?;
+    test(
+        case.kernel != "accepts" || verdict.is_none(),
+        "the original's kernel accepts what the step check refuses",
+    )?;
+    if case.classes != "done" {
+        return test(case.emit != "done", "emission without classes");
+    }
+    let run = Run::read(&pack, case)?;
+    run.classes()?;
+    run.figures(&case.figures)?;
+    // Where a goal has not its result's judgment the original answers what no paper asks for.
+    if verdict.is_some() {
+        return Ok(());
+    }
+    run.goals(case)?;
+    match case.emit == "done" {
+        true => emission(&pack, case),
+        false => Ok(()),
+    }
+}
+
+struct Row {
+    conclusion: u32,
+    count: u32,
+    flex: Vec<u32>,
+}
+
+struct Run<'a> {
+    pack: &'a Pack,
+    class_of: &'a [u32],
+    rows: Vec<Row>,
+    patterns: Vec<&'a [u32]>,
+    /// The first step with each step's judgment.
+    first: Vec<u32>,
+}
+
+/// Pattern words as nodes: a count, then head and as many further words.
+fn nodes(words: &[u32]) -> Result<Vec<&[u32]>, String> {
+    let mut nodes = Vec::new();
+    let mut rest = words;
+    while let Some((&count, tail)) = rest.split_first() {
+        let length = count as usize + 1;
+        test(length <= tail.len(), "pattern words that end in a node")?;
+        let (node, tail) = tail.split_at(length);
+        nodes.push(node);
+        rest = tail;
+    }
+    Ok(nodes)
+}
+
+/// Nodes are distinct, rest on earlier ones and are well sorted.
+fn well_formed(pack: &Pack, nodes: &[&[u32]]) -> Judged {
+    let mut seen = HashSet::new();
+    let mut sorts = Vec::new();
+    for node in nodes {
+        test(seen.insert(*node), "a pattern node twice")?;
+        if node[0] == VAR {
+            test(node.len() == 3, "a pattern variable of another length")?;
+            sorts.push(node[2]);
+            continue;
+        }
+        let symbol = pack
+            .symbols
+            .get(node[0] as usize)
+            .ok_or("an unknown head")?;
+        test(
+            node.len() - 1 == symbol.inputs.len(),
+            "a pattern of another arity",
+        )?;
+        for (&a, &s) in node[1..].iter().zip(&symbol.inputs) {
+            test(sorts.get(a as usize) == Some(&s), "an ill-sorted pattern")?;
+        }
+        sorts.push(symbol.output);
+    }
+    Ok(())
+}
+
+impl<'a> Run<'a> {
+    fn read(pack: &'a Pack, case: &'a Case) -> Result<Self, String> {
+        let patterns = nodes(&case.pattern_words)?;
+        well_formed(pack, &patterns)?;
+        let n = pack.steps.len();
+        test(case.class_words.len() >= n, "fewer class words than steps")?;
+        let (class_of, mut rest) = case.class_words.split_at(n);
+        let mut rows = Vec::new();
+        while !rest.is_empty() {
+            test(rest.len() >= 3, "a class row that is cut")?;
+            let variables = rest[2] as usize;
+            test(rest.len() - 3 >= variables, "flex marks that are cut")?;
+            test(
+                (rest[0] as usize) < patterns.len(),
+                "a conclusion that is no pattern",
+            )?;
+            rows.push(Row {
+                conclusion: rest[0],
+                count: rest[1],
+                flex: rest[3..3 + variables].to_vec(),
+            });
+            rest = &rest[3 + variables..];
+        }
+        let mut by_judgment = HashMap::new();
+        let first = (0..n as u32)
+            .map(|s| {
+                *by_judgment
+                    .entry(pack.steps[s as usize].judgment)
+                    .or_insert(s)
+            })
+            .collect();
+        Ok(Run {
+            pack,
+            class_of,
+            rows,
+            patterns,
+            first,
+        })
+    }
+
+    fn predicate(&self, step: usize) -> u32 {
+        self.pack.nodes[self.pack.steps[step].judgment as usize][0]
+    }
+
+    fn is_cut(&self, step: usize) -> bool {
+        self.pack.cut(self.predicate(step)).is_some()
+    }
+
+    fn needed(&self) -> Vec<bool> {
+        let mut needed = vec![false; self.first.len()];
+        let results = self.pack.results.iter();
+        let mut todo: Vec<u32> = results.map(|r| self.first[r.at as usize]).collect();
+        while let Some(s) = todo.pop() {
+            let s = s as usize;
+            if !std::mem::replace(&mut needed[s], true) && !self.is_cut(s) {
+                let refs = self.pack.steps[s].refs.iter();
+                todo.extend(refs.map(|&r| self.first[r as usize]));
+            }
+        }
+        needed
+    }
+
+    /// Classes follow the keys, counts the steps, and every needed step's judgment is
+    /// an instance of the conclusion of its class.
+    fn classes(&self) -> Judged {
+        let mut keys: HashMap<Vec<u32>, u32> = HashMap::new();
+        let mut counts = vec![0; self.rows.len()];
+        for (s, needed) in self.needed().into_iter().enumerate() {
+            let class = self.class_of[s];
+            if !needed {
+                test(class == NONE, format!("unneeded step {s} has a class"))?;
+                continue;
+            }
+            let step = &self.pack.steps[s];
+            let key = if self.is_cut(s) {
+                vec![VAR, self.predicate(s)]
+            } else {
+                let refs = step.refs.iter();
+                let classes = refs.map(|&r| self.class_of[self.first[r as usize] as usize]);
+                [step.rule].into_iter().chain(classes).collect()
+            };
+            let next = keys.len() as u32;
+            let wanted = *keys.entry(key).or_insert(next);
+            test(
+                class == wanted,
+                format!("step {s} has another class than its key"),
+            )?;
+            let row = self
+                .rows
+                .get(class as usize)
+                .ok_or("a class without a row")?;
+            counts[class as usize] += 1;
+            let mut values = HashMap::new();
+            test(
+                self.instance(row.conclusion, step.judgment, &mut values),
+                format!("step {s} is no instance of its class's conclusion"),
+            )?;
+        }
+        test(keys.len() == self.rows.len(), "a row without a class")?;
+        for (c, row) in self.rows.iter().enumerate() {
+            test(
+                row.count == counts[c],
+                format!("class {c} miscounts its steps"),
+            )?;
+            test(
+                row.flex.iter().all(|f| *f <= 1),
+                format!("class {c} has odd marks"),
+            )?;
+        }
+        Ok(())
+    }
+
+    /// Match a pattern; patterns are few and small beside the steps, so no memory is kept.
+    fn instance(&self, p: u32, g: u32, values: &mut HashMap<u32, u32>) -> bool {
+        let mut todo = vec![(p, g)];
+        let mut seen = HashSet::new();
+        while let Some((p, g)) = todo.pop() {
+            let pattern = self.patterns[p as usize];
+            let node = &self.pack.nodes[g as usize];
+            if pattern[0] == VAR {
+                let sort = self.pack.symbols[node[0] as usize].output;
+                if *values.entry(pattern[1]).or_insert(g) != g || sort != pattern[2] {
+                    return false;
+                }
+            } else if pattern[0] != node[0] {
+                return false;
+            } else if seen.insert((p, g)) {
+                todo.extend(pattern[1..].iter().copied().zip(node[1..].iter().copied()));
+            }
+        }
+        true
+    }
+
+    fn figures(&self, figures: &[u64]) -> Judged {
+        let [
+            steps,
+            classes,
+            ground,
+            pattern,
+            class_vars,
+            flex_vars,
+            _,
+            entries,
+            renamings,
+            ..,
+        ] = *figures
+        else {
+            return Err("fewer figures than there are".into());
+        };
+        test(figures.len() == 13, "another number of figures")?;
+        let needed = self.class_of.iter().filter(|c| **c != NONE).count() as u64;
+        test(steps == needed, "the figure of needed steps")?;
+        test(classes == self.rows.len() as u64, "the figure of classes")?;
+        test(
+            ground == self.pack.nodes.len() as u64,
+            "the figure of ground nodes",
+        )?;
+        test(
+            pattern == self.patterns.len() as u64,
+            "the figure of pattern nodes",
+        )?;
+        let made = self.rows.iter().enumerate().filter(|(c, _)| {
+            let step = self.class_of.iter().position(|k| *k as usize == *c);
+            step.is_some_and(|s| !self.is_cut(s))
+        });
+        let marks: Vec<u32> = made.flat_map(|(_, row)| row.flex.clone()).collect();
+        test(
+            class_vars == marks.len() as u64,
+            "the figure of class variables",
+        )?;
+        let flexible = marks.iter().filter(|f| **f == 1).count() as u64;
+        test(flex_vars == flexible, "the figure of flexible variables")?;
+        test(renamings <= entries, "more renamings than entries")?;
+        let mut slots = [0; 4];
+        for row in &self.rows {
+            slots[match row.count {
+                0 | 1 => 0,
+                2..=9 => 1,
+                10..=99 => 2,
+                _ => 3,
+            }] += 1;
+        }
+        test(figures[9..] == slots, "the histogram")
+    }
+
+    /// The shown text is what the words say, with budgets 60 and 12.
+    fn goals(&self, case: &Case) -> Judged {
+        let results = self.pack.results.iter();
+        let results: HashMap<&str, u32> = results.map(|r| (r.name.as_str(), r.at)).collect();
+        let mut text = String::new();
+        for goal in &self.pack.goals {
+            let step = results
+                .get(goal.name.as_str())
+                .ok_or("a goal without a result")?;
+            let class = self.class_of[self.first[*step as usize] as usize];
+            let row = &self.rows[class as usize];
+            let mut values = HashMap::new();
+            test(
+                self.instance(row.conclusion, goal.at, &mut values),
+                format!(
+                    "goal {} is no instance of its class's conclusion",
+                    goal.name
+                ),
+            )?;
+            let _ = write!(text, "{} ", goal.name);
+            self.show(row.conclusion, &mut 60, &mut text);
+            text.push('\n');
+            let mut shown: Vec<(u32, u32)> = values.into_iter().collect();
+            shown.sort();
+            for (k, value) in shown {
+                let sort = &self.pack.sorts[self.pack.sort_of(value) as usize];
+                let mark = row
+                    .flex
+                    .get(k as usize)
+                    .ok_or("a variable without a mark")?;
+                let _ = write!(text, "?v{k} : {sort} {mark} ");
+                self.show_ground(value, &mut 12, &mut text);
+                text.push('\n');
+            }
+        }
+        test(text == case.shown, "the shown goals")
+    }
+
+    fn show(&self, p: u32, budget: &mut usize, out: &mut String) {
+        let node = self.patterns[p as usize];
+        if spent(budget, out) {
+            return;
+        }
+        if node[0] == VAR {
+            let _ = write!(out, "?v{}", node[1]);
+            return;
+        }
+        let open = self.open(node, out);
+        for &a in &node[1..] {
+            out.push(' ');
+            self.show(a, budget, out);
+        }
+        out.push_str(open);
+    }
+
+    fn show_ground(&self, g: u32, budget: &mut usize, out: &mut String) {
+        let node = &self.pack.nodes[g as usize];
+        if spent(budget, out) {
+            return;
+        }
+        let open = self.open(node, out);
+        for &a in &node[1..] {
+            out.push(' ');
+            self.show_ground(a, budget, out);
+        }
+        out.push_str(open);
+    }
+
+    /// Write the head; answers the bracket that closes it.
+    fn open(&self, node: &[u32], out: &mut String) -> &'static str {
+        let name = &self.pack.symbols[node[0] as usize].name;
+        let bare = node.len() == 1 && !self.pack.is_predicate(node[0]);
+        let _ = write!(out, "{}{name}", if bare { "" } else { "(" });
+        if bare { "" } else { ")" }
+    }
+}
+
+fn spent(budget: &mut usize, out: &mut String) -> bool {
+    let spent = *budget == 0;
+    if spent {
+        out.push('…');
+    } else {
+        *budget -= 1;
+    }
+    spent
+}
+
+/// The emitted lines agree with the counts and with each other.
+fn emission(pack: &Pack, case: &Case) -> Judged {
+    let mut words = case.pattern_words.clone();
+    words.extend(&case.more_pattern_words);
+    well_formed(pack, &nodes(&words)?)?;
+    let count = |text: &str, tag: &str| text.lines().filter(|l| l.starts_with(tag)).count() as u64;
+    let [open, rigid, steps, inductions, definitions] = case.emitted[..] else {
+        return Err("another number of emission's figures".into());
+    };
+    test(
+        open + rigid == pack.goals.len() as u64,
+        "open and rigid goals",
+    )?;
+    test(
+        definitions == count(&case.proof, "(def "),
+        "the figure of definitions",
+    )?;
+    test(
+        inductions == count(&case.proof, "(induct "),
+        "the figure of inductions",
+    )?;
+    let numbered = case.proof.lines().filter_map(|l| {
+        let mut fields = l.split(' ');
+        matches!(fields.next(), Some("(step" | "(hyp" | "(induct")).then(|| fields.next())
+    });
+    let mut written = 0u64;
+    for number in numbered {
+        let number = number.and_then(|n| n.parse::<u64>().ok());
+        test(
+            number == Some(written),
+            "lines that are not numbered in order",
+        )?;
+        written += 1;
+    }
+    test(steps == written, "the figure of emitted steps")?;
+    test(count(&case.goals, "(var ") == 1, "the goal lines' variable")?;
+    let names = |text: &str, tag: &str| -> Vec<String> {
+        let lines = text.lines().filter_map(|l| l.strip_prefix(tag));
+        lines
+            .filter_map(|l| l.split(' ').next().map(str::to_owned))
+            .collect()
+    };
+    let goals: Vec<String> = pack.goals.iter().map(|g| g.name.clone()).collect();
+    test(
+        names(&case.goals, "(goal ") == goals,
+        "the goal lines' names",
+    )?;
+    test(
+        names(&case.proof, "(result ") == goals,
+        "the result lines' names",
+    )?;
+    let longest = case.emit_used.get(1).copied().unwrap_or(0);
+    test(
+        longest >= case.proof.len() as u64,
+        "a longest text below the text",
+    )
+}

@@ -1,0 +1,12 @@
+//! Host-side handling of packs: the format, the text it is made from, its dump,
+//! the verdict on its steps, and the recorded answers of the Rust original.
+//! Written from document 01 alone, so that it can judge the library from outside.
+pub mod cli;
+pub mod dump;
+pub mod file;
+pub mod judge;
+pub mod pack;
+pub mod sexp;
+pub mod text;
+pub mod vectors;
+pub mod verdict;

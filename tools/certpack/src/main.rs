@@ -1,0 +1,113 @@
+//! certpack: the host tool that makes, shows and checks packs.
+use certpack::cli::{self, Fault};
+use certpack::pack::{Pack, decode};
+use certpack::vectors::{self, Case};
+use certpack::{dump::dump, file, judge::judge, verdict::verdict};
+use std::process::ExitCode;
+
+const HELP: &str = "\
+certpack: packs of certificate records
+
+  certpack make TEXT... -o PACK   make a pack from theory, goals, proof, cuts and
+                                  abstract, in one text file or several
+  certpack dump PACK              write a pack as lines that a person can read
+  certpack check PACK             test every step and goal; writes `0 0`, or the
+                                  answer's number and place
+  certpack judge FOLDER           judge the recorded vectors of a folder
+  certpack recorded FOLDER NAME   write what is recorded of one case: shown goals,
+                                  proof lines, goal lines
+  certpack --help                 this page
+
+Forms of a text ( ; starts a comment):
+  (sort NAME)   (ctor NAME (SORT...) SORT)   (pred NAME (SORT...))
+  (rule NAME (PREMISE...) CONCLUSION)        variables are written ?x
+  (goal NAME JUDGMENT)   (def ?NAME TERM)
+  (step N RULE (REF...) ITEM...)             ITEM: the judgment, or (?x TERM)
+  (result NAME STEP)
+  (cut PREDICATE POSITION...)                positions, from 0, are outputs
+  (abstract CONSTRUCTOR POSITION)
+
+Exit status: 0 done; 1 a fault in the input, said in one line on standard
+error with its file and line or its number and byte; 2 a wrong call.
+An output file is written whole or not at all.
+";
+
+fn main() -> ExitCode {
+    cli::main("certpack", run)
+}
+
+fn run(args: &[&str]) -> Result<String, Fault> {
+    match args {
+        ["--help" | "-h" | "help"] => Ok(HELP.into()),
+        ["make", rest @ ..] => make(rest),
+        ["dump", path] => Ok(dump(&read(path)?)),
+        ["check", path] => {
+            let (number, place) = verdict(&read(path)?).unwrap_or((0, 0));
+            Ok(format!("{number} {place}\n"))
+        }
+        ["judge", folder] => judge_all(folder),
+        ["recorded", folder, name] => recorded(folder, name),
+        _ => Err(cli::unknown(args)),
+    }
+}
+
+fn make(args: &[&str]) -> Result<String, Fault> {
+    let (forms, target) = cli::texts(args)?;
+    let Some(target) = target else {
+        return cli::call("-o PACK is wanted");
+    };
+    file::write(&target, &forms.pack()?.encode())?;
+    Ok(String::new())
+}
+
+fn read(path: &str) -> Result<Pack, Fault> {
+    let refused = |r| Fault::Input(format!("{path}: refused, {r}"));
+    decode(&file::read(path)?).map_err(refused)
+}
+
+fn recorded(folder: &str, name: &str) -> Result<String, Fault> {
+    for path in vectors::files(folder)? {
+        if let Some(c) = vectors::read(&path)?.into_iter().find(|c| c.name == name) {
+            let text = format!("{}--\n{}--\n{}", c.shown, c.proof, c.goals);
+            return Ok(match (c.classes.as_str(), c.emit.as_str()) {
+                ("done", "done") => text,
+                (classes, emit) => format!("classes: {classes}\nemit: {emit}\n{text}"),
+            });
+        }
+    }
+    Err(Fault::Input(format!("{folder}: no case {name}")))
+}
+
+/// The least that the recorded set must hold.
+const LEAST_CASES: usize = 400;
+
+fn judge_all(folder: &str) -> Result<String, Fault> {
+    let mut cases = Vec::new();
+    for path in vectors::files(folder)? {
+        for case in vectors::read(&path)? {
+            judge(&case).map_err(|why| format!("{path}: case {}: {why}", case.name))?;
+            cases.push(case);
+        }
+    }
+    let count = |holds: fn(&Case) -> bool| cases.iter().filter(|c| holds(c)).count();
+    let small = count(|c| c.pack.len() <= 512);
+    if cases.len() < LEAST_CASES || 3 * small < 2 * cases.len() {
+        let why = format!(
+            "{folder}: {} cases, {small} of them small: too few",
+            cases.len()
+        );
+        return Err(Fault::Input(why));
+    }
+    Ok(format!(
+        "{} recorded cases judged, {small} of at most 512 bytes\n\
+         {} with a goal that stays open, {} with one that falls back to ground, {} with an induction\n\
+         {} where the original refuses, {} where it panics, {} where it runs out of time\n",
+        cases.len(),
+        count(|c| c.emitted.first().is_some_and(|&n| n > 0)),
+        count(|c| c.emitted.get(1).is_some_and(|&n| n > 0)),
+        count(|c| c.emitted.get(3).is_some_and(|&n| n > 0)),
+        count(|c| c.emit.starts_with("error")),
+        count(|c| c.emit == "panic"),
+        count(|c| c.emit == "out of time"),
+    ))
+}
