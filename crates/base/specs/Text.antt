@@ -10,7 +10,7 @@ use borrow.Author.Tests.{le-leb, lt-leb}
 use lib.Dec.{leb}
 use lib.ListN.{length, take, drop, set, length-append, length-drop}
 use lib.Seq.{length-take-le, take-at, lt-length-set, take-set-le, drop-cons, getD-set-same, drop-set-lt, set-split}
-use Rattle.base.specs.Decimal.{decimal, decimal-few, decimal-more, length-more}
+use Rattle.definition.specs.Decimal.{decimal, decimal-few, decimal-more, length-more}
 use Rattle.base.specs.declared.decimal.Put.{Put}
 use Rattle.base.specs.declared.decimal.Put.the-variants.{End, Short}
 

@@ -1,7 +1,7 @@
 // Numbers as decimal text, written into a lent buffer.
 ghost use mathlib.Core.Path.{_≡_};
 ghost use lib.ListN.{length};
-ghost use Rattle.base.specs.Decimal.{decimal};
+ghost use Rattle.definition.specs.Decimal.{decimal};
 ghost use Rattle.base.specs.Text.{Wrote, write};
 
 // How a write ended: the place behind the last byte, or that there was no room.

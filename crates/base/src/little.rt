@@ -2,7 +2,7 @@
 ghost use mathlib.Core.Path.{_≡_};
 ghost use Prim.Native.Nat.{_+_, _<_, _≤_};
 ghost use lib.ListN.{length};
-ghost use Rattle.base.specs.Little.{le};
+ghost use Rattle.definition.specs.Little.{le};
 
 // A byte as a number of four.
 fn wide(b: u8) -> u32

@@ -8,8 +8,8 @@ use native.Mathlib.Omega.{arith}
 use borrow.Author.Tests.{le-leb, lt-leb, lt-ltb, le-ltb}
 use lib.Dec.{leb, ltb}
 use lib.ListN.{length}
-use Rattle.base.specs.Decimal.{decimal}
-use Rattle.base.specs.Little.{le}
+use Rattle.definition.specs.Decimal.{decimal}
+use Rattle.definition.specs.Little.{le}
 use Rattle.records.specs.declared.Record.{Record}
 use Rattle.records.specs.declared.Record.the-variants.{Cut, Whole}
 

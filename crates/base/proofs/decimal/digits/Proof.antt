@@ -4,7 +4,7 @@ use mathlib.Core.Path.{_≡_, ap}
 use Prim.Native.Nat.{_+_, _≤_}
 use native.Mathlib.Omega.{arith}
 use lib.ListN.{length}
-use Rattle.base.specs.Decimal.{decimal, decimal-few, length-more}
+use Rattle.definition.specs.Decimal.{decimal, decimal-few, length-more}
 use Rattle.base.proofs.decimal.digits.Statement.{statement}
 use Rattle.base.proofs.decimal.digits.Tie as tie
 

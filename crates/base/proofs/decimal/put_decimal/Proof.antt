@@ -4,7 +4,7 @@ use mathlib.Core.Path.{_≡_, refl, _∙_}
 use Prim.Native.Nat.{_+_, _/_, _<_}
 use native.Mathlib.Omega.{arith}
 use lib.ListN.{length, length-set}
-use Rattle.base.specs.Decimal.{decimal, decimal-first, length-more}
+use Rattle.definition.specs.Decimal.{decimal, decimal-first, length-more}
 use Rattle.base.specs.Text.{over, write-fits, write-short, decimal-turn, decimal-end}
 use Rattle.base.proofs.decimal.put_decimal.Statement.{statement}
 use Rattle.base.proofs.decimal.put_decimal.Tie as tie

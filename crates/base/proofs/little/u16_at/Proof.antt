@@ -1,7 +1,7 @@
 -- `u16_at` meets its contract, by the definition of `le`.
 use borrow.Author.Needs.{needs}
 use native.Mathlib.Omega.{arith}
-use Rattle.base.specs.Little.{le}
+use Rattle.definition.specs.Little.{le}
 use Rattle.base.proofs.little.u16_at.Statement.{statement}
 use Rattle.base.proofs.little.u16_at.Tie as tie
 

@@ -1,7 +1,7 @@
 -- `u32_at` meets its contract: four bytes are two and two.
 use borrow.Author.Needs.{needs}
 use native.Mathlib.Omega.{arith}
-use Rattle.base.specs.Little.{le-split}
+use Rattle.definition.specs.Little.{le-split}
 use Rattle.base.proofs.little.u32_at.Statement.{statement}
 use Rattle.base.proofs.little.u32_at.Tie as tie
 

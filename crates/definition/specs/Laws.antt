@@ -1,0 +1,14 @@
+-- What follows from the definition, and what later proofs will want of it.
+pub mod Frame
+pub mod Grow
+pub mod Taken
+pub mod TakenTheory
+pub mod TakenCertificate
+pub mod Good
+pub mod Tree
+pub mod Matches
+pub mod Agreement
+pub mod Check
+pub mod Put
+pub mod Body
+pub mod Encode

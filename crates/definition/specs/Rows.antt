@@ -1,0 +1,11 @@
+-- The small packs, a file for each part.
+pub mod Say
+pub mod Row
+pub mod Front
+pub mod Length
+pub mod Name
+pub mod Theory
+pub mod Limit
+pub mod Certificate
+pub mod Verdict
+pub mod Table
