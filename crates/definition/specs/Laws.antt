@@ -9,6 +9,7 @@ pub mod Tree
 pub mod Matches
 pub mod Agreement
 pub mod Check
+pub mod Run
 pub mod Put
 pub mod Body
 pub mod Encode

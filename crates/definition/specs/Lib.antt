@@ -13,5 +13,15 @@ pub mod Answer
 pub mod Verdict
 pub mod Check
 pub mod Good
+pub mod Store
+pub mod Graph
+pub mod Run
+pub mod Analysis
+pub mod Keys
+pub mod Classes
+pub mod Figures
+pub mod Goals
+pub mod Shown
+pub mod Calls
 pub mod Laws
 pub mod Rows

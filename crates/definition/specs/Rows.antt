@@ -8,4 +8,7 @@ pub mod Theory
 pub mod Limit
 pub mod Certificate
 pub mod Verdict
+pub mod Classes
+pub mod Order
+pub mod Unify
 pub mod Table

@@ -32,3 +32,21 @@ pub struct Answer {
     pub code: u64,
     pub place: u64,
 }
+
+// The figures of class building, as document 01 counts them; the last four are the histogram's slots.
+#[repr(C)]
+pub struct Figures {
+    pub steps: u64,
+    pub classes: u64,
+    pub ground_nodes: u64,
+    pub pattern_nodes: u64,
+    pub class_vars: u64,
+    pub flex_vars: u64,
+    pub fixed_vars: u64,
+    pub subst_entries: u64,
+    pub subst_renamings: u64,
+    pub single: u64,
+    pub few: u64,
+    pub tens: u64,
+    pub hundreds: u64,
+}

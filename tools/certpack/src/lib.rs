@@ -8,5 +8,6 @@ pub mod judge;
 pub mod pack;
 pub mod sexp;
 pub mod text;
+pub mod theorems;
 pub mod vectors;
 pub mod verdict;

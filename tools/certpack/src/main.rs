@@ -2,7 +2,7 @@
 use certpack::cli::{self, Fault};
 use certpack::pack::{Pack, decode};
 use certpack::vectors::{self, Case};
-use certpack::{dump::dump, file, judge::judge, verdict::verdict};
+use certpack::{dump::dump, file, judge::judge, theorems::theorems, verdict::verdict};
 use std::process::ExitCode;
 
 const HELP: &str = "\
@@ -14,6 +14,8 @@ certpack: packs of certificate records
   certpack check PACK             test every step and goal; writes `0 0`, or the
                                   answer's number and place
   certpack judge FOLDER           judge the recorded vectors of a folder
+  certpack theorems FOLDER N K    write every N-th recorded case of at most 512 bytes,
+                                  from the K-th on, as theorems of the definition
   certpack recorded FOLDER NAME   write what is recorded of one case: shown goals,
                                   proof lines, goal lines
   certpack --help                 this page
@@ -46,6 +48,10 @@ fn run(args: &[&str]) -> Result<String, Fault> {
             Ok(format!("{number} {place}\n"))
         }
         ["judge", folder] => judge_all(folder),
+        ["theorems", folder, n, k] => match (n.parse(), k.parse()) {
+            (Ok(n @ 1..), Ok(k)) => theorems_of(folder, n, k),
+            _ => cli::call("N and K are numbers, and N is not 0"),
+        },
         ["recorded", folder, name] => recorded(folder, name),
         _ => Err(cli::unknown(args)),
     }
@@ -63,6 +69,16 @@ fn make(args: &[&str]) -> Result<String, Fault> {
 fn read(path: &str) -> Result<Pack, Fault> {
     let refused = |r| Fault::Input(format!("{path}: refused, {r}"));
     decode(&file::read(path)?).map_err(refused)
+}
+
+fn theorems_of(folder: &str, n: usize, k: usize) -> Result<String, Fault> {
+    let mut cases = Vec::new();
+    for path in vectors::files(folder)? {
+        cases.extend(vectors::read(&path)?);
+    }
+    let small: Vec<&Case> = cases.iter().filter(|c| c.pack.len() <= 512).collect();
+    let chosen: Vec<&Case> = small.into_iter().skip(k).step_by(n).collect();
+    Ok(theorems(&chosen)?)
 }
 
 fn recorded(folder: &str, name: &str) -> Result<String, Fault> {

@@ -6,14 +6,14 @@ use Rattle.definition.specs.Pack.{prop}
 use Rattle.definition.specs.Encode.{putRecord}
 use Rattle.definition.specs.Rows.Say.{sort, symbol, rule, node, step, goal, result, cut, abstract, nested, times, X}
 use Rattle.definition.specs.Rows.Front.{sorts, symbols, rules, nodes}
-use Rattle.definition.specs.Rows.Row.{Row, check, lent, reading, Claim, answered, Holds}
+use Rattle.definition.specs.Rows.Row.{Row, check, lent, reading, Claim, seen, Holds}
 
 -- a new node
 abbrev node-good : Row
 node-good = check (nodes ++ node (1 ∷ 2 ∷ [])) 50000 0 0
 
 node-good-holds : Claim node-good
-unfolding answered
+unfolding seen
 node-good-holds = refl
 
 -- no node is given twice
@@ -21,7 +21,7 @@ abbrev node-twice : Row
 node-twice = check (nodes ++ node (1 ∷ 0 ∷ [])) 50000 1 148
 
 node-twice-holds : Claim node-twice
-unfolding answered
+unfolding seen
 node-twice-holds = refl
 
 -- arguments are earlier nodes
@@ -29,7 +29,7 @@ abbrev node-later : Row
 node-later = check (nodes ++ node (1 ∷ 3 ∷ [])) 50000 1 148
 
 node-later-holds : Claim node-later
-unfolding answered
+unfolding seen
 node-later-holds = refl
 
 -- a judgment is no argument
@@ -37,7 +37,7 @@ abbrev node-judgment : Row
 node-judgment = check (nodes ++ node (1 ∷ 1 ∷ [])) 50000 1 148
 
 node-judgment-holds : Claim node-judgment
-unfolding answered
+unfolding seen
 node-judgment-holds = refl
 
 -- too few arguments
@@ -45,7 +45,7 @@ abbrev node-short : Row
 node-short = check (nodes ++ node (1 ∷ [])) 50000 1 148
 
 node-short-holds : Claim node-short
-unfolding answered
+unfolding seen
 node-short-holds = refl
 
 -- too many arguments
@@ -53,7 +53,7 @@ abbrev node-long : Row
 node-long = check (nodes ++ node (0 ∷ 0 ∷ [])) 50000 1 148
 
 node-long-holds : Claim node-long
-unfolding answered
+unfolding seen
 node-long-holds = refl
 
 -- a head that is not there
@@ -61,7 +61,7 @@ abbrev node-unknown : Row
 node-unknown = check (nodes ++ node (3 ∷ [])) 50000 1 148
 
 node-unknown-holds : Claim node-unknown
-unfolding answered
+unfolding seen
 node-unknown-holds = refl
 
 -- a step's judgment has a predicate on top
@@ -69,7 +69,7 @@ abbrev step-term : Row
 step-term = check (nodes ++ step (0 ∷ 0 ∷ [])) 50000 1 148
 
 step-term-holds : Claim step-term
-unfolding answered
+unfolding seen
 step-term-holds = refl
 
 -- a rule that is not there
@@ -77,7 +77,7 @@ abbrev step-rule : Row
 step-rule = check (nodes ++ step (2 ∷ 1 ∷ [])) 50000 1 148
 
 step-rule-holds : Claim step-rule
-unfolding answered
+unfolding seen
 step-rule-holds = refl
 
 -- refs are earlier steps
@@ -85,7 +85,7 @@ abbrev step-self : Row
 step-self = check (nodes ++ step (1 ∷ 1 ∷ 0 ∷ [])) 50000 1 148
 
 step-self-holds : Claim step-self
-unfolding answered
+unfolding seen
 step-self-holds = refl
 
 -- as many refs as premises
@@ -93,7 +93,7 @@ abbrev step-more-refs : Row
 step-more-refs = check (nodes ++ step (0 ∷ 1 ∷ []) ++ step (0 ∷ 1 ∷ 0 ∷ [])) 50000 1 162
 
 step-more-refs-holds : Claim step-more-refs
-unfolding answered
+unfolding seen
 step-more-refs-holds = refl
 
 -- a goal's judgment has a predicate on top
@@ -101,7 +101,7 @@ abbrev goal-term : Row
 goal-term = check (nodes ++ goal 0 "g") 50000 1 148
 
 goal-term-holds : Claim goal-term
-unfolding answered
+unfolding seen
 goal-term-holds = refl
 
 -- a step that is not there
@@ -109,7 +109,7 @@ abbrev result-unknown : Row
 result-unknown = check (nodes ++ result 0 "g") 50000 1 148
 
 result-unknown-holds : Claim result-unknown
-unfolding answered
+unfolding seen
 result-unknown-holds = refl
 
 -- a cut is on a predicate
@@ -117,7 +117,7 @@ abbrev cut-constructor : Row
 cut-constructor = check (nodes ++ cut (1 ∷ [])) 50000 1 148
 
 cut-constructor-holds : Claim cut-constructor
-unfolding answered
+unfolding seen
 cut-constructor-holds = refl
 
 -- outputs lie below the arity
@@ -125,7 +125,7 @@ abbrev cut-output : Row
 cut-output = check (nodes ++ cut (2 ∷ 1 ∷ [])) 50000 1 148
 
 cut-output-holds : Claim cut-output
-unfolding answered
+unfolding seen
 cut-output-holds = refl
 
 -- an output may be repeated
@@ -133,7 +133,7 @@ abbrev cut-repeated : Row
 cut-repeated = check (nodes ++ cut (2 ∷ 0 ∷ 0 ∷ [])) 50000 0 0
 
 cut-repeated-holds : Claim cut-repeated
-unfolding answered
+unfolding seen
 cut-repeated-holds = refl
 
 -- a predicate is cut once
@@ -141,7 +141,7 @@ abbrev cut-twice : Row
 cut-twice = check (nodes ++ cut (2 ∷ []) ++ cut (2 ∷ [])) 50000 1 158
 
 cut-twice-holds : Claim cut-twice
-unfolding answered
+unfolding seen
 cut-twice-holds = refl
 
 -- outputs are whole words
@@ -149,7 +149,7 @@ abbrev cut-bytes : Row
 cut-bytes = check (nodes ++ putRecord 8 (2 ∷ 0 ∷ 0 ∷ 0 ∷ 0 ∷ 0 ∷ [])) 50000 1 148
 
 cut-bytes-holds : Claim cut-bytes
-unfolding answered
+unfolding seen
 cut-bytes-holds = refl
 
 -- a constructor and a position
@@ -157,7 +157,7 @@ abbrev abstract-good : Row
 abstract-good = check (nodes ++ abstract (1 ∷ 0 ∷ [])) 50000 0 0
 
 abstract-good-holds : Claim abstract-good
-unfolding answered
+unfolding seen
 abstract-good-holds = refl
 
 -- a predicate is no constructor
@@ -165,7 +165,7 @@ abbrev abstract-predicate : Row
 abstract-predicate = check (nodes ++ abstract (2 ∷ 0 ∷ [])) 50000 1 148
 
 abstract-predicate-holds : Claim abstract-predicate
-unfolding answered
+unfolding seen
 abstract-predicate-holds = refl
 
 -- a constant has no position
@@ -173,7 +173,7 @@ abbrev abstract-constant : Row
 abstract-constant = check (nodes ++ abstract (0 ∷ 0 ∷ [])) 50000 1 148
 
 abstract-constant-holds : Claim abstract-constant
-unfolding answered
+unfolding seen
 abstract-constant-holds = refl
 
 -- the body ends there
@@ -181,7 +181,7 @@ abbrev abstract-more : Row
 abstract-more = check (nodes ++ abstract (1 ∷ 0 ∷ 0 ∷ [])) 50000 1 148
 
 abstract-more-holds : Claim abstract-more
-unfolding answered
+unfolding seen
 abstract-more-holds = refl
 
 -- at most one
@@ -189,7 +189,7 @@ abbrev abstract-twice : Row
 abstract-twice = check (nodes ++ abstract (1 ∷ 0 ∷ []) ++ abstract (1 ∷ 0 ∷ [])) 50000 1 162
 
 abstract-twice-holds : Claim abstract-twice
-unfolding answered
+unfolding seen
 abstract-twice-holds = refl
 
 abbrev pub rows : List Row

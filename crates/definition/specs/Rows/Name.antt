@@ -6,14 +6,14 @@ use Rattle.definition.specs.Pack.{prop}
 use Rattle.definition.specs.Encode.{putRecord}
 use Rattle.definition.specs.Rows.Say.{sort, symbol, rule, node, step, goal, result, cut, abstract, nested, times, X}
 use Rattle.definition.specs.Rows.Front.{sorts, symbols, rules, nodes}
-use Rattle.definition.specs.Rows.Row.{Row, check, lent, reading, Claim, answered, Holds}
+use Rattle.definition.specs.Rows.Row.{Row, check, lent, reading, Claim, seen, Holds}
 
 -- five bytes are a cut record
 abbrev header-cut : Row
 header-cut = check (sorts ++ (1 ∷ 0 ∷ 0 ∷ 0 ∷ 1 ∷ [])) 50000 1 7
 
 header-cut-holds : Claim header-cut
-unfolding answered
+unfolding seen
 header-cut-holds = refl
 
 -- a body past the end
@@ -21,7 +21,7 @@ abbrev body-cut : Row
 body-cut = check (sorts ++ (2 ∷ 0 ∷ 0 ∷ 0 ∷ 1 ∷ 0 ∷ 65 ∷ [])) 50000 1 7
 
 body-cut-holds : Claim body-cut
-unfolding answered
+unfolding seen
 body-cut-holds = refl
 
 -- a length is no limit
@@ -29,7 +29,7 @@ abbrev length-huge : Row
 length-huge = check (sorts ++ (255 ∷ 255 ∷ 255 ∷ 255 ∷ 1 ∷ 0 ∷ 65 ∷ [])) 50000 1 7
 
 length-huge-holds : Claim length-huge
-unfolding answered
+unfolding seen
 length-huge-holds = refl
 
 -- there is no kind 0
@@ -37,7 +37,7 @@ abbrev kind-0 : Row
 kind-0 = check (sorts ++ putRecord 0 (65 ∷ [])) 50000 1 7
 
 kind-0-holds : Claim kind-0
-unfolding answered
+unfolding seen
 kind-0-holds = refl
 
 -- there is no kind 10
@@ -45,7 +45,7 @@ abbrev kind-10 : Row
 kind-10 = check (sorts ++ putRecord 10 (65 ∷ [])) 50000 1 7
 
 kind-10-holds : Claim kind-10
-unfolding answered
+unfolding seen
 kind-10-holds = refl
 
 -- a kind is all 16 bits
@@ -53,7 +53,7 @@ abbrev kind-257 : Row
 kind-257 = check (sorts ++ putRecord 257 (65 ∷ [])) 50000 1 7
 
 kind-257-holds : Claim kind-257
-unfolding answered
+unfolding seen
 kind-257-holds = refl
 
 -- kinds never fall
@@ -61,7 +61,7 @@ abbrev kinds-fall : Row
 kinds-fall = check (symbols ++ sort "A") 50000 1 54
 
 kinds-fall-holds : Claim kinds-fall
-unfolding answered
+unfolding seen
 kinds-fall-holds = refl
 
 -- kinds may be skipped and repeated
@@ -69,7 +69,7 @@ abbrev kinds-skip : Row
 kinds-skip = check (sort "A" ++ sort "B" ++ symbol prop [] "q" ++ cut (0 ∷ [])) 50000 0 0
 
 kinds-skip-holds : Claim kinds-skip
-unfolding answered
+unfolding seen
 kinds-skip-holds = refl
 
 -- a name has a byte at least
@@ -77,7 +77,7 @@ abbrev name-none : Row
 name-none = check (sorts ++ sort "") 50000 1 7
 
 name-none-holds : Claim name-none
-unfolding answered
+unfolding seen
 name-none-holds = refl
 
 -- 64 bytes pass
@@ -85,7 +85,7 @@ abbrev name-64 : Row
 name-64 = check (sorts ++ sort "aaaaaaaaaaaaaaaaaaaaaaaaaaaaaaaaaaaaaaaaaaaaaaaaaaaaaaaaaaaaaaaa") 50000 0 0
 
 name-64-holds : Claim name-64
-unfolding answered
+unfolding seen
 name-64-holds = refl
 
 -- 65 are against the form, not over a limit
@@ -93,7 +93,7 @@ abbrev name-65 : Row
 name-65 = check (sorts ++ sort "aaaaaaaaaaaaaaaaaaaaaaaaaaaaaaaaaaaaaaaaaaaaaaaaaaaaaaaaaaaaaaaaa") 50000 1 7
 
 name-65-holds : Claim name-65
-unfolding answered
+unfolding seen
 name-65-holds = refl
 
 -- no leading question mark
@@ -101,7 +101,7 @@ abbrev name-question : Row
 name-question = check (sorts ++ sort "?a") 50000 1 7
 
 name-question-holds : Claim name-question
-unfolding answered
+unfolding seen
 name-question-holds = refl
 
 -- a question mark behind the first byte
@@ -109,7 +109,7 @@ abbrev name-question-inside : Row
 name-question-inside = check (sorts ++ sort "a?") 50000 0 0
 
 name-question-inside-holds : Claim name-question-inside
-unfolding answered
+unfolding seen
 name-question-inside-holds = refl
 
 -- no round bracket
@@ -117,7 +117,7 @@ abbrev name-bracket : Row
 name-bracket = check (sorts ++ sort "a(") 50000 1 7
 
 name-bracket-holds : Claim name-bracket
-unfolding answered
+unfolding seen
 name-bracket-holds = refl
 
 -- no round bracket
@@ -125,7 +125,7 @@ abbrev name-bracket-2 : Row
 name-bracket-2 = check (sorts ++ sort "a)") 50000 1 7
 
 name-bracket-2-holds : Claim name-bracket-2
-unfolding answered
+unfolding seen
 name-bracket-2-holds = refl
 
 -- no byte below 33
@@ -133,7 +133,7 @@ abbrev name-blank : Row
 name-blank = check (sorts ++ sort "a b") 50000 1 7
 
 name-blank-holds : Claim name-blank
-unfolding answered
+unfolding seen
 name-blank-holds = refl
 
 -- 126 passes
@@ -141,7 +141,7 @@ abbrev name-126 : Row
 name-126 = check (sorts ++ sort "~!") 50000 0 0
 
 name-126-holds : Claim name-126
-unfolding answered
+unfolding seen
 name-126-holds = refl
 
 -- 127 does not
@@ -149,7 +149,7 @@ abbrev name-127 : Row
 name-127 = check (sorts ++ putRecord 1 (97 ∷ 127 ∷ [])) 50000 1 7
 
 name-127-holds : Claim name-127
-unfolding answered
+unfolding seen
 name-127-holds = refl
 
 -- sort names are unique
@@ -157,7 +157,7 @@ abbrev sort-twice : Row
 sort-twice = check (sorts ++ sort "N") 50000 1 7
 
 sort-twice-holds : Claim sort-twice
-unfolding answered
+unfolding seen
 sort-twice-holds = refl
 
 -- predicates and constructors have names apart
@@ -165,7 +165,7 @@ abbrev symbol-twice : Row
 symbol-twice = check (symbols ++ symbol prop [] "z") 50000 1 54
 
 symbol-twice-holds : Claim symbol-twice
-unfolding answered
+unfolding seen
 symbol-twice-holds = refl
 
 -- rule names are unique
@@ -173,7 +173,7 @@ abbrev rule-twice : Row
 rule-twice = check (rules ++ rule [] 0 (2 ∷ 0 ∷ []) "ns") 50000 1 110
 
 rule-twice-holds : Claim rule-twice
-unfolding answered
+unfolding seen
 rule-twice-holds = refl
 
 -- goal names are unique
@@ -181,7 +181,7 @@ abbrev goal-twice : Row
 goal-twice = check (nodes ++ goal 1 "g" ++ goal 1 "g") 50000 1 159
 
 goal-twice-holds : Claim goal-twice
-unfolding answered
+unfolding seen
 goal-twice-holds = refl
 
 -- result names are unique
@@ -189,7 +189,7 @@ abbrev result-twice : Row
 result-twice = check (nodes ++ step (0 ∷ 1 ∷ []) ++ result 0 "g" ++ result 0 "g") 50000 1 173
 
 result-twice-holds : Claim result-twice
-unfolding answered
+unfolding seen
 result-twice-holds = refl
 
 -- one name in every kind
@@ -197,7 +197,7 @@ abbrev one-name : Row
 one-name = check (sort "a" ++ symbol prop [] "a" ++ rule [] 0 (0 ∷ []) "a" ++ node (0 ∷ []) ++ step (0 ∷ 0 ∷ []) ++ goal 0 "a" ++ result 0 "a") 50000 0 0
 
 one-name-holds : Claim one-name
-unfolding answered
+unfolding seen
 one-name-holds = refl
 
 abbrev pub rows : List Row

@@ -7,20 +7,29 @@ use Rattle.definition.specs.Rows.Theory.{rows as theory-rows, hold as th
 use Rattle.definition.specs.Rows.Limit.{rows as limit-rows, hold as limit-hold}
 use Rattle.definition.specs.Rows.Certificate.{rows as certificate-rows, hold as certificate-hold}
 use Rattle.definition.specs.Rows.Verdict.{rows as verdict-rows, hold as verdict-hold}
+use Rattle.definition.specs.Rows.Classes.{rows as classes-rows, hold as classes-hold}
+use Rattle.definition.specs.Rows.Order.{rows as order-rows, hold as order-hold}
+use Rattle.definition.specs.Rows.Unify.{rows as unify-rows, hold as unify-hold}
+
+-- a table that holds
+pub record Part : Type 0 where
+  pub rows : List Row
+  pub holds : Holds rows
 
 -- two tables that hold, one behind the other
 pub both : (rs qs : List Row) → Holds rs → Holds qs → Holds (rs ++ qs)
 both [] qs h k = k
 both (r ∷ rs) qs h k = (h .0, both rs qs (h .1) k)
 
-abbrev pack-rows : List Row
-pack-rows = name-rows ++ (theory-rows ++ (limit-rows ++ certificate-rows))
+abbrev pub joined : List Part → Part
+joined [] = record { rows = []; holds = tt }
+joined (p ∷ ps) = record { rows = p .rows ++ joined ps .rows; holds = both (p .rows) (joined ps .rows) (p .holds) (joined ps .holds) }
 
-pack-hold : Holds pack-rows
-pack-hold = both name-rows (theory-rows ++ (limit-rows ++ certificate-rows)) name-hold (both theory-rows (limit-rows ++ certificate-rows) theory-hold (both limit-rows certificate-rows limit-hold certificate-hold))
+abbrev pub parts : List Part
+parts = record { rows = length-rows; holds = length-hold } ∷ record { rows = name-rows; holds = name-hold } ∷ record { rows = theory-rows; holds = theory-hold }
+    ∷ record { rows = limit-rows; holds = limit-hold } ∷ record { rows = certificate-rows; holds = certificate-hold } ∷ record { rows = verdict-rows; holds = verdict-hold }
+    ∷ record { rows = classes-rows; holds = classes-hold } ∷ record { rows = order-rows; holds = order-hold } ∷ record { rows = unify-rows; holds = unify-hold } ∷ []
 
-abbrev pub rows : List Row
-rows = length-rows ++ (pack-rows ++ verdict-rows)
-
-pub small-packs : Holds rows
-small-packs = both length-rows (pack-rows ++ verdict-rows) length-hold (both pack-rows verdict-rows pack-hold verdict-hold)
+-- every row of every part
+pub small-packs : Holds (joined parts .rows)
+small-packs = joined parts .holds

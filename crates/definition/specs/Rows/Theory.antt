@@ -5,14 +5,14 @@ use Prim.Native.Nat.{ℕ, _+_}
 use Rattle.definition.specs.Pack.{prop}
 use Rattle.definition.specs.Rows.Say.{sort, symbol, rule, node, step, goal, result, cut, abstract, nested, times, X}
 use Rattle.definition.specs.Rows.Front.{sorts, symbols, rules, nodes}
-use Rattle.definition.specs.Rows.Row.{Row, check, lent, reading, Claim, answered, Holds}
+use Rattle.definition.specs.Rows.Row.{Row, check, lent, reading, Claim, seen, Holds}
 
 -- an output sort that is not there
 abbrev output-unknown : Row
 output-unknown = check (symbols ++ symbol 1 [] "w") 50000 1 54
 
 output-unknown-holds : Claim output-unknown
-unfolding answered
+unfolding seen
 output-unknown-holds = refl
 
 -- an input sort that is not there
@@ -20,7 +20,7 @@ abbrev input-unknown : Row
 input-unknown = check (symbols ++ symbol 0 (1 ∷ []) "w") 50000 1 54
 
 input-unknown-holds : Claim input-unknown
-unfolding answered
+unfolding seen
 input-unknown-holds = refl
 
 -- a variable's sort that is not there
@@ -28,7 +28,7 @@ abbrev variable-sort : Row
 variable-sort = check (rules ++ rule (1 ∷ []) 0 (2 ∷ 0 ∷ []) "r") 50000 1 110
 
 variable-sort-holds : Claim variable-sort
-unfolding answered
+unfolding seen
 variable-sort-holds = refl
 
 -- a variable is no judgment
@@ -36,7 +36,7 @@ abbrev variable-on-top : Row
 variable-on-top = check (rules ++ rule (0 ∷ []) 0 (X ∷ []) "r") 50000 1 110
 
 variable-on-top-holds : Claim variable-on-top
-unfolding answered
+unfolding seen
 variable-on-top-holds = refl
 
 -- a constructor is no judgment
@@ -44,7 +44,7 @@ abbrev constructor-on-top : Row
 constructor-on-top = check (rules ++ rule [] 0 (0 ∷ []) "r") 50000 1 110
 
 constructor-on-top-holds : Claim constructor-on-top
-unfolding answered
+unfolding seen
 constructor-on-top-holds = refl
 
 -- predicates only at the top
@@ -52,7 +52,7 @@ abbrev predicate-below : Row
 predicate-below = check (rules ++ rule [] 0 (2 ∷ 2 ∷ 0 ∷ []) "r") 50000 1 110
 
 predicate-below-holds : Claim predicate-below
-unfolding answered
+unfolding seen
 predicate-below-holds = refl
 
 -- a variable that is not there
@@ -60,7 +60,7 @@ abbrev variable-unknown : Row
 variable-unknown = check (rules ++ rule (0 ∷ []) 0 (2 ∷ (X + 1) ∷ []) "r") 50000 1 110
 
 variable-unknown-holds : Claim variable-unknown
-unfolding answered
+unfolding seen
 variable-unknown-holds = refl
 
 -- a symbol that is not there
@@ -68,7 +68,7 @@ abbrev symbol-unknown : Row
 symbol-unknown = check (rules ++ rule [] 0 (3 ∷ []) "r") 50000 1 110
 
 symbol-unknown-holds : Claim symbol-unknown
-unfolding answered
+unfolding seen
 symbol-unknown-holds = refl
 
 -- a variable at a place of another sort
@@ -76,7 +76,7 @@ abbrev variable-elsewhere : Row
 variable-elsewhere = check (sort "N" ++ sort "M" ++ symbol prop (0 ∷ []) "p" ++ rule (1 ∷ []) 0 (0 ∷ X ∷ []) "r") 50000 1 31
 
 variable-elsewhere-holds : Claim variable-elsewhere
-unfolding answered
+unfolding seen
 variable-elsewhere-holds = refl
 
 -- a variable that does not occur
@@ -84,7 +84,7 @@ abbrev variable-unused : Row
 variable-unused = check (rules ++ rule (0 ∷ 0 ∷ []) 0 (2 ∷ (X + 1) ∷ []) "r") 50000 0 0
 
 variable-unused-holds : Claim variable-unused
-unfolding answered
+unfolding seen
 variable-unused-holds = refl
 
 -- a word too many is read as name bytes
@@ -92,7 +92,7 @@ abbrev word-as-name : Row
 word-as-name = check (rules ++ rule [] 0 (2 ∷ 0 ∷ 1633771873 ∷ []) "r") 50000 0 0
 
 word-as-name-holds : Claim word-as-name
-unfolding answered
+unfolding seen
 word-as-name-holds = refl
 
 -- and fails if they are none
@@ -100,7 +100,7 @@ abbrev word-as-bad-name : Row
 word-as-bad-name = check (rules ++ rule [] 0 (2 ∷ 0 ∷ 1 ∷ []) "r") 50000 1 110
 
 word-as-bad-name-holds : Claim word-as-bad-name
-unfolding answered
+unfolding seen
 word-as-bad-name-holds = refl
 
 abbrev pub rows : List Row

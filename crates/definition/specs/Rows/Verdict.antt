@@ -4,7 +4,7 @@ use mathlib.Core.List.{List, [], _∷_, _++_}
 use Prim.Native.Nat.{ℕ, _+_}
 use Rattle.definition.specs.Pack.{prop}
 use Rattle.definition.specs.Rows.Say.{sort, symbol, rule, node, step, goal, result, cut, abstract, nested, times, X}
-use Rattle.definition.specs.Rows.Row.{Row, check, lent, reading, Claim, answered, Holds}
+use Rattle.definition.specs.Rows.Row.{Row, check, lent, reading, Claim, seen, Holds}
 
 -- the worked example's theory
 abbrev natRules : List ℕ
@@ -39,7 +39,7 @@ abbrev example-passes : Row
 example-passes = check (example) 6336 0 0
 
 example-passes-holds : Claim example-passes
-unfolding answered
+unfolding seen
 example-passes-holds = refl
 
 -- and with a word too few
@@ -47,7 +47,7 @@ abbrev example-short : Row
 example-short = check (example) 6335 8 4
 
 example-short-holds : Claim example-short
-unfolding answered
+unfolding seen
 example-short-holds = refl
 
 -- ★ premise p(X, s X) over a step from the rule p(X, X)
@@ -55,7 +55,7 @@ abbrev circle-fails : Row
 circle-fails = check (circles ++ step (0 ∷ 1 ∷ []) ++ step (1 ∷ 2 ∷ 0 ∷ [])) 50000 3 1
 
 circle-fails-holds : Claim circle-fails
-unfolding answered
+unfolding seen
 circle-fails-holds = refl
 
 -- ★ premise p(z) over the step p(s z) from the rule p(s X)
@@ -63,7 +63,7 @@ abbrev clash-fails : Row
 clash-fails = check (clashes ++ step (0 ∷ 2 ∷ []) ++ step (1 ∷ 3 ∷ 0 ∷ [])) 50000 3 1
 
 clash-fails-holds : Claim clash-fails
-unfolding answered
+unfolding seen
 clash-fails-holds = refl
 
 -- ★ a goal without a result
@@ -71,7 +71,7 @@ abbrev no-result : Row
 no-result = check (natNodes ++ step (0 ∷ 3 ∷ []) ++ goal 3 "g" ++ result 0 "h") 50000 4 0
 
 no-result-holds : Claim no-result
-unfolding answered
+unfolding seen
 no-result-holds = refl
 
 -- a result with another judgment
@@ -79,7 +79,7 @@ abbrev other-judgment : Row
 other-judgment = check (natNodes ++ step (0 ∷ 3 ∷ []) ++ goal 4 "g" ++ result 0 "g") 50000 4 0
 
 other-judgment-holds : Claim other-judgment
-unfolding answered
+unfolding seen
 other-judgment-holds = refl
 
 -- goals ascend
@@ -87,7 +87,7 @@ abbrev second-goal : Row
 second-goal = check (natNodes ++ step (0 ∷ 3 ∷ []) ++ goal 3 "g" ++ goal 4 "h" ++ result 0 "g" ++ result 0 "h") 50000 4 1
 
 second-goal-holds : Claim second-goal
-unfolding answered
+unfolding seen
 second-goal-holds = refl
 
 -- the conclusion is tested
@@ -95,7 +95,7 @@ abbrev conclusion-fails : Row
 conclusion-fails = check (natNodes ++ step (0 ∷ 4 ∷ [])) 50000 3 0
 
 conclusion-fails-holds : Claim conclusion-fails
-unfolding answered
+unfolding seen
 conclusion-fails-holds = refl
 
 -- with the premises' assignment
@@ -103,7 +103,7 @@ abbrev conclusion-differs : Row
 conclusion-differs = check (natNodes ++ step (0 ∷ 3 ∷ []) ++ step (2 ∷ 5 ∷ 0 ∷ [])) 50000 3 1
 
 conclusion-differs-holds : Claim conclusion-differs
-unfolding answered
+unfolding seen
 conclusion-differs-holds = refl
 
 -- a premise of another predicate
@@ -111,7 +111,7 @@ abbrev premise-fails : Row
 premise-fails = check (natNodes ++ step (0 ∷ 3 ∷ []) ++ step (1 ∷ 4 ∷ 0 ∷ []) ++ step (2 ∷ 5 ∷ 1 ∷ []) ++ step (1 ∷ 4 ∷ 2 ∷ [])) 50000 3 3
 
 premise-fails-holds : Claim premise-fails
-unfolding answered
+unfolding seen
 premise-fails-holds = refl
 
 -- steps come ahead of goals
@@ -119,7 +119,7 @@ abbrev steps-first : Row
 steps-first = check (natNodes ++ step (0 ∷ 4 ∷ []) ++ goal 3 "g") 50000 3 0
 
 steps-first-holds : Claim steps-first
-unfolding answered
+unfolding seen
 steps-first-holds = refl
 
 -- one value for a variable, wherever it stands
@@ -127,7 +127,7 @@ abbrev repeated-variable : Row
 repeated-variable = check (equals ++ step (0 ∷ 2 ∷ [])) 50000 0 0
 
 repeated-variable-holds : Claim repeated-variable
-unfolding answered
+unfolding seen
 repeated-variable-holds = refl
 
 -- and never two
@@ -135,7 +135,7 @@ abbrev repeated-fails : Row
 repeated-fails = check (equals ++ step (0 ∷ 3 ∷ [])) 50000 3 0
 
 repeated-fails-holds : Claim repeated-fails
-unfolding answered
+unfolding seen
 repeated-fails-holds = refl
 
 -- a variable that does not occur needs no value
@@ -143,7 +143,7 @@ abbrev sort-without-terms : Row
 sort-without-terms = check (hollow ++ step (0 ∷ 0 ∷ [])) 50000 0 0
 
 sort-without-terms-holds : Claim sort-without-terms
-unfolding answered
+unfolding seen
 sort-without-terms-holds = refl
 
 abbrev pub rows : List Row

@@ -1,0 +1,134 @@
+-- Rows on unification's order and on the histogram's slots.
+use mathlib.Core.Path.{_≡_, refl}
+use mathlib.Core.Bool.{true, false}
+use mathlib.Core.List.{List, [], _∷_, _++_}
+use Prim.Native.Nat.{ℕ, _+_}
+use Rattle.definition.specs.Store.{nothing}
+use Rattle.definition.specs.Graph.{variableVertex, applied}
+use Rattle.definition.specs.Rows.Row.{Row, classes, built, shown, slotted, unified, Claim, seen, Holds}
+
+-- a class of 1
+abbrev slot-1 : Row
+slot-1 = slotted 1 0
+
+slot-1-holds : Claim slot-1
+unfolding seen
+slot-1-holds = refl
+
+-- a class of 2
+abbrev slot-2 : Row
+slot-2 = slotted 2 1
+
+slot-2-holds : Claim slot-2
+unfolding seen
+slot-2-holds = refl
+
+-- a class of 9
+abbrev slot-9 : Row
+slot-9 = slotted 9 1
+
+slot-9-holds : Claim slot-9
+unfolding seen
+slot-9-holds = refl
+
+-- a class of 10
+abbrev slot-10 : Row
+slot-10 = slotted 10 2
+
+slot-10-holds : Claim slot-10
+unfolding seen
+slot-10-holds = refl
+
+-- a class of 99
+abbrev slot-99 : Row
+slot-99 = slotted 99 2
+
+slot-99-holds : Claim slot-99
+unfolding seen
+slot-99-holds = refl
+
+-- a class of 100
+abbrev slot-100 : Row
+slot-100 = slotted 100 3
+
+slot-100-holds : Claim slot-100
+unfolding seen
+slot-100-holds = refl
+
+-- a free left side binds first
+abbrev left-binds : Row
+left-binds = unified (variableVertex 0 false false ∷ variableVertex 0 false false ∷ []) 0 1 (1 ∷ 1 ∷ 1 ∷ nothing ∷ [])
+
+left-binds-holds : Claim left-binds
+unfolding seen
+left-binds-holds = refl
+
+-- else a free right side
+abbrev right-binds : Row
+right-binds = unified (applied 0 [] ∷ variableVertex 0 false false ∷ []) 0 1 (1 ∷ 1 ∷ nothing ∷ 0 ∷ [])
+
+right-binds-holds : Claim right-binds
+unfolding seen
+right-binds-holds = refl
+
+-- equal roots succeed
+abbrev equal-roots : Row
+equal-roots = unified (variableVertex 0 false true ∷ []) 0 0 (1 ∷ 1 ∷ nothing ∷ [])
+
+equal-roots-holds : Claim equal-roots
+unfolding seen
+equal-roots-holds = refl
+
+-- a rigid variable on the right is not free
+abbrev rigid-right : Row
+rigid-right = unified (applied 0 [] ∷ variableVertex 0 false true ∷ []) 0 1 (0 ∷ 1 ∷ [])
+
+rigid-right-holds : Claim rigid-right
+unfolding seen
+rigid-right-holds = refl
+
+-- nor on the left
+abbrev rigid-left : Row
+rigid-left = unified (variableVertex 0 false true ∷ applied 0 [] ∷ []) 0 1 (0 ∷ 1 ∷ [])
+
+rigid-left-holds : Claim rigid-left
+unfolding seen
+rigid-left-holds = refl
+
+-- nor against another
+abbrev rigid-both : Row
+rigid-both = unified (variableVertex 0 false true ∷ variableVertex 0 false true ∷ []) 0 1 (0 ∷ 1 ∷ [])
+
+rigid-both-holds : Claim rigid-both
+unfolding seen
+rigid-both-holds = refl
+
+-- of equal heads the last arguments are taken first: p(z, z) and p(s, z) clash at the third pair
+abbrev last-first : Row
+last-first = unified (applied 0 [] ∷ applied 1 [] ∷ applied 2 (0 ∷ 0 ∷ []) ∷ applied 2 (1 ∷ 0 ∷ []) ∷ []) 2 3 (0 ∷ 3 ∷ [])
+
+last-first-holds : Claim last-first
+unfolding seen
+last-first-holds = refl
+
+-- p(z, z) and p(z, s) at the second
+abbrev last-clash : Row
+last-clash = unified (applied 0 [] ∷ applied 1 [] ∷ applied 2 (0 ∷ 0 ∷ []) ∷ applied 2 (0 ∷ 1 ∷ []) ∷ []) 2 3 (0 ∷ 2 ∷ [])
+
+last-clash-holds : Claim last-clash
+unfolding seen
+last-clash-holds = refl
+
+-- equal heads are joined before their arguments: a pair met again is equal
+abbrev joined-first : Row
+joined-first = unified (variableVertex 0 false false ∷ applied 1 (0 ∷ []) ∷ applied 1 (0 ∷ []) ∷ applied 2 (1 ∷ 1 ∷ []) ∷ applied 2 (2 ∷ 2 ∷ []) ∷ []) 3 4 (1 ∷ 4 ∷ nothing ∷ 2 ∷ nothing ∷ 4 ∷ nothing ∷ [])
+
+joined-first-holds : Claim joined-first
+unfolding seen
+joined-first-holds = refl
+
+abbrev pub rows : List Row
+rows = slot-1 ∷ slot-2 ∷ slot-9 ∷ slot-10 ∷ slot-99 ∷ slot-100 ∷ left-binds ∷ right-binds ∷ equal-roots ∷ rigid-right ∷ rigid-left ∷ rigid-both ∷ last-first ∷ last-clash ∷ joined-first ∷ []
+
+pub hold : Holds rows
+hold = (slot-1-holds, (slot-2-holds, (slot-9-holds, (slot-10-holds, (slot-99-holds, (slot-100-holds, (left-binds-holds, (right-binds-holds, (equal-roots-holds, (rigid-right-holds, (rigid-left-holds, (rigid-both-holds, (last-first-holds, (last-clash-holds, (joined-first-holds, tt)))))))))))))))
