@@ -8,7 +8,7 @@ use lib.ListN.{length, getD}
 use Rattle.definition.specs.Test.{any}
 use Rattle.definition.specs.Pack.{Term, Terms, var, app, nil, cons, Node, noNode, Pack, nodeOf}
 use Rattle.definition.specs.Tree.{Tree, Trees, tree, no-trees, tree-then, treeOf}
-use Rattle.definition.specs.Verdict.{Bound, valueOf}
+use Rattle.definition.specs.Verdict.{Bound, valueOf, provided, onwards}
 use Rattle.definition.specs.Store.{variableNode, isVariable, below, Stored, intern}
 use Rattle.definition.specs.Graph.{Vertex, Graph, variableVertex, applied, vertex, Grown, push, root, isVar}
 
@@ -105,9 +105,22 @@ unfoldable mutual
       let rest = liftAll ts (first .store) in
       record { numbers = first .number ∷ rest .numbers; store = rest .store }
 
--- the ground values of nodes, by their roots: one for each, wherever it is met
+-- the ground value of a root: the same wherever it is met; what is below an application gets its values by `deeper`
+unfoldable pub valueAt : Pack → Graph → (List ℕ → List ℕ → List Bound → Option (List Bound)) → ℕ → ℕ → List Bound → Option (List Bound)
+unfolding nodeOf vertex isVar valueOf provided
+valueAt P g deeper r n vs =
+    elim (valueOf r vs) [
+      | some m ↦ provided (eqb m n) (some vs)
+      | none ↦
+          elim (isVar (vertex g r)) [
+            | true ↦ some (pairing r n ∷ vs)
+            | false ↦ provided (eqb (vertex g r .head) (nodeOf P n .head)) (deeper (vertex g r .args) (nodeOf P n .args) (pairing r n ∷ vs))
+          ]
+    ]
+
+-- the ground values of nodes, by their roots, at most d deep: none where the ground nodes beside them are no instance
 unfoldable pub valued : ℕ → Pack → Graph → List ℕ → List ℕ → List Bound → Option (List Bound)
-unfolding nodeOf root vertex isVar valueOf
+unfolding root valueAt onwards
 valued zero P g [] [] vs = some vs
 valued zero P g [] (n ∷ ns) vs = none
 valued zero P g (x ∷ xs) [] vs = none
@@ -115,27 +128,18 @@ valued zero P g (x ∷ xs) (n ∷ ns) vs = none
 valued (suc d) P g [] [] vs = some vs
 valued (suc d) P g [] (n ∷ ns) vs = none
 valued (suc d) P g (x ∷ xs) [] vs = none
-valued (suc d) P g (x ∷ xs) (n ∷ ns) vs =
-    let r = root g x in
-    elim (valueOf r vs) [
-      | some m ↦ elim (eqb m n) [ true ↦ valued (suc d) P g xs ns vs | false ↦ none ]
-      | none ↦
-          elim (isVar (vertex g r)) [
-            | true ↦ valued (suc d) P g xs ns (pairing r n ∷ vs)
-            | false ↦
-                elim (eqb (vertex g r .head) (nodeOf P n .head)) [
-                  | false ↦ none
-                  | true ↦ elim (valued d P g (vertex g r .args) (nodeOf P n .args) (pairing r n ∷ vs)) [ none ↦ none | some ws ↦ valued (suc d) P g xs ns ws ]
-                ]
-          ]
-    ]
+valued (suc d) P g (x ∷ xs) (n ∷ ns) vs = onwards (valueAt P g (λ ys ms ws. valued d P g ys ms ws) (root g x) n vs) (λ ws. valued (suc d) P g xs ns ws)
 
 -- the graph's variables in the order of their numbers, and the store
 pub record Numbered : Type 0 where
   pub numbering : List ℕ
   pub store : List Node
 
--- patterns read back, and what numbers and store have become
+-- a pattern read back, or several, and what numbers and store have become
+pub record ResolvedOne : Type 0 where
+  pub pattern : ℕ
+  pub state : Numbered
+
 pub record Resolved : Type 0 where
   pub patterns : List ℕ
   pub state : Numbered
@@ -146,34 +150,39 @@ numberOf x [] i = none
 numberOf x (y ∷ ys) i = elim (eqb y x) [ true ↦ some i | false ↦ numberOf x ys (suc i) ]
 
 -- how a variable is read back: by its number; by the next number, if all are numbered or it is flexible; else by its ground value
-unfoldable pub resolveVariable : Pack → Graph → List Bound → Bool → ℕ → Numbered → Resolved
+unfoldable pub resolveVariable : Pack → Graph → List Bound → Bool → ℕ → Numbered → ResolvedOne
 unfolding numberOf intern lift treeOf vertex copied
 resolveVariable P g values everyone r st =
     elim (numberOf r (st .numbering) 0) [
-      | some k ↦ let p = intern (st .store) (variableNode k (vertex g r .sort)) in record { patterns = p .number ∷ []; state = record { numbering = st .numbering; store = p .store } }
+      | some k ↦ let p = intern (st .store) (variableNode k (vertex g r .sort)) in record { pattern = p .number; state = record { numbering = st .numbering; store = p .store } }
       | none ↦
           elim (everyone || vertex g r .flex) [
             | true ↦
                 let p = intern (st .store) (variableNode (length (st .numbering)) (vertex g r .sort)) in
-                record { patterns = p .number ∷ []; state = record { numbering = st .numbering ++ (r ∷ []); store = p .store } }
-            | false ↦ let p = lift (treeOf P (copied values r)) (st .store) in record { patterns = p .number ∷ []; state = record { numbering = st .numbering; store = p .store } }
+                record { pattern = p .number; state = record { numbering = st .numbering ++ (r ∷ []); store = p .store } }
+            | false ↦ let p = lift (treeOf P (copied values r)) (st .store) in record { pattern = p .number; state = record { numbering = st .numbering; store = p .store } }
           ]
     ]
 
--- "Variables are numbered as `resolve` meets them": terms read back from left to right, arguments first, at most d deep
+-- how a root is read back: arguments first, by `deeper`
+unfoldable pub resolveAt : Pack → Graph → List Bound → Bool → (List ℕ → Numbered → Resolved) → ℕ → Numbered → ResolvedOne
+unfolding resolveVariable vertex isVar intern
+resolveAt P g values everyone deeper r st =
+    elim (isVar (vertex g r)) [
+      | true ↦ resolveVariable P g values everyone r st
+      | false ↦
+          let args = deeper (vertex g r .args) st in
+          let p = intern (args .state .store) (record { head = vertex g r .head; args = args .patterns }) in
+          record { pattern = p .number; state = record { numbering = args .state .numbering; store = p .store } }
+    ]
+
+-- "Variables are numbered as `resolve` meets them": terms read back from left to right, at most d deep
 unfoldable pub resolve : ℕ → Pack → Graph → List Bound → Bool → List ℕ → Numbered → Resolved
-unfolding resolveVariable root vertex isVar intern
+unfolding resolveAt root
 resolve zero P g values everyone [] st = record { patterns = []; state = st }
 resolve zero P g values everyone (x ∷ xs) st = record { patterns = []; state = st }
 resolve (suc d) P g values everyone [] st = record { patterns = []; state = st }
 resolve (suc d) P g values everyone (x ∷ xs) st =
-    let r = root g x in
-    let first : Resolved = elim (isVar (vertex g r)) [
-      | true ↦ resolveVariable P g values everyone r st
-      | false ↦
-          let args = resolve d P g values everyone (vertex g r .args) st in
-          let p = intern (args .state .store) (record { head = vertex g r .head; args = args .patterns }) in
-          record { patterns = p .number ∷ []; state = record { numbering = args .state .numbering; store = p .store } }
-    ] in
+    let first = resolveAt P g values everyone (λ ys s. resolve d P g values everyone ys s) (root g x) st in
     let rest = resolve (suc d) P g values everyone xs (first .state) in
-    record { patterns = first .patterns ++ rest .patterns; state = rest .state }
+    record { patterns = first .pattern ∷ rest .patterns; state = rest .state }

@@ -33,15 +33,15 @@ some-number : {a b : ℕ} → some a ≡ some b → a ≡ b
 some-number e = cc
 
 -- the nodes of the refs' judgments
-abbrev judged : Pack → List ℕ → List ℕ
+abbrev pub judged : Pack → List ℕ → List ℕ
 judged P refs = map (λ r. stepOf P r .judgment) refs
 
-judgments-pick : (P : Pack) (refs : List ℕ) → judgments P refs ≡ pick (trees P) (judged P refs)
+pub judgments-pick : (P : Pack) (refs : List ℕ) → judgments P refs ≡ pick (trees P) (judged P refs)
 unfolding judgments pick treeOf
 judgments-pick P [] = refl
 judgments-pick P (r ∷ refs) = ap (tree-then (treeOf P (stepOf P r .judgment))) (judgments-pick P refs)
 
-judged-below : (P : Pack) → Good P → (refs : List ℕ) → Below (length (P .steps)) refs → Below (length (P .nodes)) (judged P refs)
+pub judged-below : (P : Pack) → Good P → (refs : List ℕ) → Below (length (P .steps)) refs → Below (length (P .nodes)) (judged P refs)
 judged-below P G [] b = tt
 judged-below P G (r ∷ refs) b = let g = G .steps r (b .0) in (g .judgment .given, judged-below P G refs (b .1))
 

@@ -1,0 +1,4 @@
+-- Which steps are needed, and which have one class.
+pub mod Needed
+pub mod Keyed
+pub mod KeyedLaws

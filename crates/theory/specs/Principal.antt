@@ -1,0 +1,59 @@
+-- Demand 3, of the words that class building writes: what they must say of the pack's bytes.
+use mathlib.Core.Path.{_≡_}
+use mathlib.Core.List.{List, [], _∷_}
+use mathlib.Core.Option.{none, some}
+use Prim.Native.Nat.{ℕ, zero, suc, _<_}
+use lib.ListN.{length, getD, take, drop}
+use Rattle.definition.specs.Pack.{Node, Pack, stepOf}
+use Rattle.definition.specs.Tree.{Tree, treeOf}
+use Rattle.definition.specs.Frame.{fine}
+use Rattle.definition.specs.Parse.{parse}
+use Rattle.definition.specs.Verdict.{Accepted}
+use Rattle.definition.specs.Answer.{answer, lengths}
+use Rattle.definition.specs.Run.{LongEnough}
+use Rattle.definition.specs.Keys.{needed}
+use Rattle.definition.specs.Calls.{classRun, classesLent, Left}
+use Rattle.theory.specs.Derive.{Judgment, InstanceOf, Derivation, Shape}
+use Rattle.theory.specs.Keys.Needed.{Among}
+
+-- "per node a count, then head and arguments": k nodes at most. Zeros behind the last are nodes without arguments, which none names
+unfoldable pub nodesIn : ℕ → List ℕ → List Node
+nodesIn zero ws = []
+nodesIn (suc k) [] = []
+nodesIn (suc k) (n ∷ []) = []
+nodesIn (suc k) (n ∷ h ∷ ws) = record { head = h; args = take n ws } ∷ nodesIn k (drop n ws)
+
+-- the pattern nodes, "by their number"
+unfoldable pub patternsIn : List ℕ → List Node
+unfolding nodesIn
+patternsIn pattern = nodesIn (length pattern) pattern
+
+-- "per class conclusion, instance count, variable count, flex marks": the words from a class's row on
+unfoldable pub rowIn : List ℕ → ℕ → List ℕ
+rowIn ws zero = ws
+rowIn ws (suc c) = rowIn (drop (getD ws 2 0) (drop 3 ws)) c
+
+-- the rows stand behind "each step's class"
+unfoldable pub conclusionIn : Pack → List ℕ → ℕ → ℕ
+unfolding rowIn
+conclusionIn P class c = getD (rowIn (drop (length (P .steps)) class) c) 0 0
+
+-- "some derivation of the class's shape concludes it"
+abbrev pub Concluded : Pack → List ℕ → ℕ → Tree → Type 0
+Concluded P class c j = (d : Derivation P j) × Shape P class d c
+
+-- what n classes, their words and their patterns' say of an accepted pack
+pub record Principal (P : Pack) (n : ℕ) (class pattern : List ℕ) : Type 0 where
+  -- "each needed step's judgment is an instance of the conclusion written for its class"
+  pub held : (s : ℕ) → s < length (P .steps) → Among s (needed P) → (getD class s 0 < n) × InstanceOf P (patternsIn pattern) (conclusionIn P class (getD class s 0)) (treeOf P (stepOf P s .judgment))
+  -- "for every class written and every well-sorted judgment …, that judgment is an instance of the class's conclusion exactly when
+  -- some derivation of the class's shape concludes it": the conclusion is wide enough, and it is narrow enough
+  pub wide : (c : ℕ) → c < n → (j : Tree) → Judgment P j → Concluded P class c j → InstanceOf P (patternsIn pattern) (conclusionIn P class c) j
+  pub narrow : (c : ℕ) → c < n → (j : Tree) → Judgment P j → InstanceOf P (patternsIn pattern) (conclusionIn P class c) j → Concluded P class c j
+
+-- demand 3 of a class call: if the step check accepts the pack, "and the buffers are long enough and within document 01's limits,
+-- then class building never refuses", and what it writes is principal
+abbrev pub DemandThree : List ℕ → ℕ → ℕ → ℕ → ℕ → Left → Type 0
+DemandThree pack class pattern graph work left =
+    (P : Pack) → parse pack ≡ fine P → Accepted P → lengths (classesLent (length pack) class pattern graph work) ≡ none → LongEnough (classesLent (length pack) class pattern graph work) (classRun P)
+    → (left .returned ≡ answer none) × Principal P (left .figures .classes) (left .class) (left .pattern)

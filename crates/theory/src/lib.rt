@@ -1,0 +1,1 @@
+// What follows from the definition alone. No code.
