@@ -8,3 +8,7 @@ pub mod Resolved
 pub mod Numbering
 pub mod Entries
 pub mod ReadBack
+pub mod Ground
+pub mod Fixed
+pub mod Met
+pub mod Values

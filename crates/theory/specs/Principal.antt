@@ -1,9 +1,12 @@
 -- Demand 3, of the words that class building writes: what they must say of the pack's bytes.
 use mathlib.Core.Path.{_≡_}
+use mathlib.Core.Bool.{true}
 use mathlib.Core.List.{List, [], _∷_}
 use mathlib.Core.Option.{none, some}
 use Prim.Native.Nat.{ℕ, zero, suc, _<_}
+use lib.Dec.{eqb}
 use lib.ListN.{length, getD, take, drop}
+use Rattle.definition.specs.Test.{any}
 use Rattle.definition.specs.Pack.{Node, Pack, stepOf}
 use Rattle.definition.specs.Tree.{Tree, treeOf}
 use Rattle.definition.specs.Frame.{fine}
@@ -14,7 +17,6 @@ use Rattle.definition.specs.Run.{LongEnough}
 use Rattle.definition.specs.Keys.{needed}
 use Rattle.definition.specs.Calls.{classRun, classesLent, Left}
 use Rattle.theory.specs.Derive.{Judgment, InstanceOf, Derivation, Shape}
-use Rattle.theory.specs.Keys.Needed.{Among}
 
 -- "per node a count, then head and arguments": k nodes at most. Zeros behind the last are nodes without arguments, which none names
 unfoldable pub nodesIn : ℕ → List ℕ → List Node
@@ -45,7 +47,7 @@ Concluded P class c j = (d : Derivation P j) × Shape P class d c
 -- what n classes, their words and their patterns' say of an accepted pack
 pub record Principal (P : Pack) (n : ℕ) (class pattern : List ℕ) : Type 0 where
   -- "each needed step's judgment is an instance of the conclusion written for its class"
-  pub held : (s : ℕ) → s < length (P .steps) → Among s (needed P) → (getD class s 0 < n) × InstanceOf P (patternsIn pattern) (conclusionIn P class (getD class s 0)) (treeOf P (stepOf P s .judgment))
+  pub held : (s : ℕ) → s < length (P .steps) → any (eqb s) (needed P) ≡ true → (getD class s 0 < n) × InstanceOf P (patternsIn pattern) (conclusionIn P class (getD class s 0)) (treeOf P (stepOf P s .judgment))
   -- "for every class written and every well-sorted judgment …, that judgment is an instance of the class's conclusion exactly when
   -- some derivation of the class's shape concludes it": the conclusion is wide enough, and it is narrow enough
   pub wide : (c : ℕ) → c < n → (j : Tree) → Judgment P j → Concluded P class c j → InstanceOf P (patternsIn pattern) (conclusionIn P class c) j

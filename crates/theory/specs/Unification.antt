@@ -10,3 +10,6 @@ pub mod Unify
 pub mod Acyclic
 pub mod Circle
 pub mod Typed
+pub mod Marks
+pub mod Flex
+pub mod Taken

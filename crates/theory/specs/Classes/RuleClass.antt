@@ -23,6 +23,7 @@ use Rattle.definition.specs.declared.Refusal.{Refusal}
 use Rattle.theory.specs.Derive.{InstanceOf, Fits, Derivation, leaf, by, Shape, Shapes}
 use Rattle.theory.specs.Classes.Steps.{AllJudged, refs-judged}
 use Rattle.theory.specs.Keys.Needed.{first-earlier}
+use Rattle.theory.specs.Keys.Keyed.{firsts-below}
 use Rattle.theory.specs.Keys.KeyedLaws.{keyed-kept}
 use Rattle.theory.specs.Unification.Solve.{treesAt}
 use Rattle.theory.specs.Copies.Push.{Extends}
@@ -59,10 +60,6 @@ getD-any (x ∷ xs) (suc i) d e h = getD-any xs i d e (omega arith)
 key-classes : (P : Pack) (words : List ℕ) → length words ≡ length (P .steps) → (refs : List ℕ) → Below (length (P .steps)) refs → map (λ r. getD words (firstOf P r) nothing) refs ≡ classesOf P words refs
 key-classes P words w [] b = refl
 key-classes P words w (r ∷ refs) b = let f = first-earlier P r (b .0) in ap₂ _∷_ (getD-any words (firstOf P r) nothing 0 (omega (arith, b .0))) (key-classes P words w refs (b .1))
-
-firsts-below : (P : Pack) (refs : List ℕ) → Below (length (P .steps)) refs → Below (length (P .steps)) (map (firstOf P) refs)
-firsts-below P [] b = tt
-firsts-below P (r ∷ refs) b = let f = first-earlier P r (b .0) in (omega (arith, b .0), firsts-below P refs (b .1))
 
 -- assignments that agree on the rule's variables turn premises into the same judgments
 premises-same : (P : Pack) (vars : List ℕ) (ν μ : ℕ → Tree) → ((k : ℕ) → k < length vars → ν k ≡ μ k) → (ts : Terms) → Judgments P vars ts → turns ν ts ≡ turns μ ts
@@ -148,7 +145,7 @@ module _ (P : Pack) (G : Good P) (F : Few P) (few : length (P .steps) < nothing)
       let g = T .result .graph in
       let below = refs-below P G s (X .given) in
       let K = acyclic-ends g acyclic in
-      rw (T .instances, T .judged) (valued-found P G O g (T .formed) (W .solution) (W .solves) (suc (length g)) (T .more) (judged P refs) [] (T .inside) (judged-below P G refs (firsts-below P (stepOf P s .refs) below))
+      rw (T .instances, T .judged) (valued-found P G O g (T .formed) (W .solution) (W .solves) (suc (length g)) (T .more) (judged P refs) [] (T .inside) (judged-below P G refs (firsts-below P (length (P .steps)) (stepOf P s .refs) (omega arith) below))
       (all-below (λ x. ends (suc (length g)) g x) (length g) (T .more) K (T .inside)) (agreeing-none P (W .solution)) (trees-are ∙ X .firsts ∙ judgments-pick P refs))
 
   judged-all : AllJudged P (treesAt (W .solution) (T .more))

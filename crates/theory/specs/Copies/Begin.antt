@@ -13,6 +13,7 @@ use Rattle.definition.specs.Good.{Below}
 use Rattle.definition.specs.Laws.Grow.{below-more}
 use Rattle.definition.specs.Graph.{Vertex, Graph, vertex, follow, root, isVar}
 use Rattle.theory.specs.Unification.Solve.{treesAt, Solves, sortAt, SortsAt, Formed-at, Formed, Begins}
+use Rattle.theory.specs.Unification.Roots.{follow-none, follow-some, follow-more}
 
 -- a graph begins with itself
 pub begins-refl : (g : Graph) → Begins g g
@@ -63,29 +64,6 @@ SortsAt-begins P g h b [] (s ∷ ss) l e = absurd e
 SortsAt-begins P g h b (x ∷ xs) [] l e = absurd e
 SortsAt-begins P g h b (x ∷ xs) (s ∷ ss) l e = (sortAt-begins P g h b x (l .0) ∙ e .0, SortsAt-begins P g h b xs ss (l .1) (e .1))
 
--- a node that is joined to none is where its chain ends
-pub follow-stop : (k : ℕ) (g : Graph) (x : ℕ) → vertex g x .link ≡ none → follow k g x ≡ x
-unfolding follow
-follow-stop zero g x e = refl
-follow-stop (suc k) g x e = rw (e, follow)
-
--- one link on
-pub follow-step : (k : ℕ) (g : Graph) (x y : ℕ) → vertex g x .link ≡ some y → follow (suc k) g x ≡ follow k g y
-unfolding follow
-follow-step k g x y e = rw (e, follow)
-
--- more links allowed change nothing once a chain has ended
-pub follow-more : (g : Graph) (k j x : ℕ) → k ≤ j → vertex g (follow k g x) .link ≡ none → follow j g x ≡ follow k g x
-unfolding follow
-follow-more g zero j x l e = follow-stop j g x e
-follow-more g (suc k) zero x l e = absurd (omega arith)
-follow-more g (suc k) (suc j) x l e = elim (see (vertex g x .link)) [
-  | is none p ↦ follow-stop (suc j) g x p ∙ sym (follow-stop (suc k) g x p)
-  | is (some y) p ↦
-      let q = follow-step k g x y p in
-      follow-step j g x y p ∙ follow-more g k j y (omega arith) (rw q at e) ∙ sym q
-]
-
 -- chains of the shorter graph stay in it
 follow-begins : (g h : Graph) → Begins g h → ((x y : ℕ) → x < length g → vertex g x .link ≡ some y → y < length g)
     → (k x : ℕ) → x < length g → follow k h x ≡ follow k g x
@@ -94,8 +72,8 @@ follow-begins g h b stay zero x l = refl
 follow-begins g h b stay (suc k) x l =
     let same : vertex h x .link ≡ vertex g x .link = ap (λ (v : Vertex). v .link) (b .kept x l) in
     elim (see (vertex g x .link)) [
-      | is none p ↦ follow-stop (suc k) h x (same ∙ p) ∙ sym (follow-stop (suc k) g x p)
-      | is (some y) p ↦ follow-step k h x y (same ∙ p) ∙ follow-begins g h b stay k y (stay x y l p) ∙ sym (follow-step k g x y p)
+      | is none p ↦ follow-none (suc k) h x (same ∙ p) ∙ sym (follow-none (suc k) g x p)
+      | is (some y) p ↦ follow-some k h x y (same ∙ p) ∙ follow-begins g h b stay k y (stay x y l p) ∙ sym (follow-some k g x y p)
     ]
 
 -- a node's root is what it was
@@ -104,7 +82,7 @@ unfolding root
 root-begins P g h b f x l =
     let same = follow-begins g h b (λ x y m e. f x m .linked y e .0) (length g) x l in
     let end : vertex h (follow (length g) h x) .link ≡ none = rw same (ap (λ (v : Vertex). v .link) (b .kept (root g x) (f x l .within)) ∙ f x l .rooted) in
-    follow-more h (length g) (length h) x (b .longer) end ∙ same
+    follow-more (length g) (length h) h x end (b .longer) ∙ same
 
 -- a node of the shorter graph is well formed in the longer
 pub formed-begins : (P : Pack) (g h : Graph) → Begins g h → Formed P g → (x : ℕ) → x < length g → Formed-at P h x

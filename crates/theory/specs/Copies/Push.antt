@@ -16,7 +16,8 @@ use Rattle.definition.specs.Good.{Below}
 use Rattle.definition.specs.Laws.Grow.{below-more, length-more}
 use Rattle.definition.specs.Graph.{Vertex, Graph, variableVertex, applied, vertex, push, root, isVar}
 use Rattle.theory.specs.Unification.Solve.{treesAt, Solves, sortAt, SortsAt, Formed-at, Formed, Begins}
-use Rattle.theory.specs.Copies.Begin.{treesAt-same, sortAt-variable, sortAt-applied, SortsAt-begins, follow-stop, formed-begins}
+use Rattle.theory.specs.Copies.Begin.{treesAt-same, sortAt-variable, sortAt-applied, SortsAt-begins, formed-begins}
+use Rattle.theory.specs.Unification.Roots.{follow-none}
 
 -- it is longer by one
 pub push-length : (g : Graph) (v : Vertex) → length (push g v .graph) ≡ suc (length g)
@@ -75,7 +76,7 @@ push-formed-new P g v f =
     let b = push-begins g v in
     let new : vertex h (length g) ≡ v = push-new g v in
     let end : vertex h (length g) .link ≡ none = ap (λ (v : Vertex). v .link) new ∙ f .alone in
-    let r : root h (length g) ≡ length g = follow-stop (length h) h (length g) end in
+    let r : root h (length g) ≡ length g = follow-none (length h) h (length g) end in
     record {
       soft = ap (λ (v : Vertex). v .rigid) new ∙ f .soft;
       head = λ e. rw new (f .head (ap isVar (sym new) ∙ e));

@@ -66,7 +66,7 @@ key-kept P ws more s b = elim (see (isCut P (predicateOf P s))) [
 ]
 
 -- a good step's refs stand for steps before it
-firsts-below : (P : Pack) (s : ℕ) (refs : List ℕ) → s ≤ length (P .steps) → Below s refs → Below s (map (firstOf P) refs)
+pub firsts-below : (P : Pack) (s : ℕ) (refs : List ℕ) → s ≤ length (P .steps) → Below s refs → Below s (map (firstOf P) refs)
 firsts-below P s [] h b = tt
 firsts-below P s (r ∷ refs) h b = let e = first-earlier P r (omega (arith, b .0)) in (omega (arith, b .0), firsts-below P s refs h (b .1))
 

@@ -44,7 +44,7 @@ module _ (P : Pack) (g : Graph) (values : List Bound) (everyone : Bool) where
     ]
   ]
 
-  at-keeps : (deeper : List ℕ → Numbered → Resolved) (r : ℕ) (st : Numbered)
+  pub at-keeps : (deeper : List ℕ → Numbered → Resolved) (r : ℕ) (st : Numbered)
       → (Sound (st .store) (deeper (vertex g r .args) st .state .store) × Below (length (deeper (vertex g r .args) st .state .store)) (deeper (vertex g r .args) st .patterns))
       → Sound (st .store) (resolveAt P g values everyone deeper r st .state .store) × (resolveAt P g values everyone deeper r st .pattern < length (resolveAt P g values everyone deeper r st .state .store))
   unfolding resolveAt

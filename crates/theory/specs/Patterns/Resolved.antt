@@ -79,7 +79,7 @@ variable-means s k so ρ E =
     let v : isVariable (getD (p .store) (p .number) noNode) ≡ true = rw (I .is) (variable-is k so) in
     ap (turn ρ) (term-variable (p .store) (I .earlier E b) (p .number) (I .within) v) ∙ ap (λ (n : Node). ρ (getD (n .args) 0 0)) (I .is)
 
-variable-earlier : (s : List Node) (k so : ℕ) → Earlier s → Earlier (intern s (variableNode k so) .store)
+pub variable-earlier : (s : List Node) (k so : ℕ) → Earlier s → Earlier (intern s (variableNode k so) .store)
 unfolding below isVariable
 variable-earlier s k so E = interned s (variableNode k so) .earlier E tt
 

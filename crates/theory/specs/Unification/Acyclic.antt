@@ -12,27 +12,14 @@ use Rattle.definition.specs.Tree.{Tree, tree, tree-then, noTree}
 use Rattle.definition.specs.Good.{Below}
 use Rattle.definition.specs.Graph.{Graph, vertex, follow, root, isVar, ends}
 use Rattle.theory.specs.Unification.Solve.{treesAt, Solves, Formed}
+use Rattle.theory.specs.Unification.Roots.{follow-none, follow-more}
 
 -- roots ------------------------------------------------------------------
 
 -- a node that is joined to none is its own root
 pub root-self : (g : Graph) (x : ℕ) → vertex g x .link ≡ none → root g x ≡ x
 unfolding root follow
-root-self g x e = stay (length g) where
-  stay : (k : ℕ) → follow k g x ≡ x
-  stay zero = refl
-  stay (suc k) = rw (e, follow)
-
--- one link more changes nothing once a root is met
-follow-more : (k : ℕ) (g : Graph) (x : ℕ) → vertex g (follow k g x) .link ≡ none → follow (suc k) g x ≡ follow k g x
-unfolding follow
-follow-more zero g x e = rw (e, follow)
-follow-more (suc k) g x e = elim (see (vertex g x .link)) [
-  | is none p ↦ rw (p, follow)
-  | is (some y) p ↦
-      let q : vertex g (follow k g y) .link ≡ none = rw (p, follow) at e in
-      rw (p, follow) (follow-more k g y q)
-]
+root-self g x e = follow-none (length g) g x e
 
 -- joined nodes have one root
 pub root-link : (P : Pack) (g : Graph) → Formed P g → (x y : ℕ) → x < length g → vertex g x .link ≡ some y → root g x ≡ root g y
@@ -42,7 +29,7 @@ root-link P g F x y h e = at (length g) h (F x h .rooted) where
   at zero l r = absurd (omega arith)
   at (suc n) l r =
       let q : vertex g (follow n g y) .link ≡ none = rw (e, follow) at r in
-      rw (e, follow) (sym (follow-more n g y q))
+      rw (e, follow) (sym (follow-more n (suc n) g y q (omega arith)))
 
 -- a solution gives a node its root's tree
 pub solves-root : (θ : ℕ → Tree) (P : Pack) (g : Graph) → Formed P g → Solves θ g → (x : ℕ) → x < length g → θ x ≡ θ (root g x)

@@ -23,6 +23,7 @@ use Rattle.theory.specs.Walks.Walk.{Under, below-under, Known, walk, wal
 use Rattle.theory.specs.Walks.Machine.{Frame, turn, Stacked}
 use Rattle.theory.specs.Walks.WalkReady.{Sound, turn-going}
 use Rattle.theory.specs.Walks.Again.{stored, storedAll, headed, lift-again, lift-twice}
+use Rattle.theory.specs.Copies.Copying.{copied-is}
 
 -- the store, and what ground nodes were lifted to
 pub record Lifting : Type 0 where
@@ -65,11 +66,6 @@ value-new n p m = rw (eq-eqb n n refl, valueOf)
 value-old : (n x p : ℕ) (m : List Bound) → eqb n x ≡ false → valueOf x (pairing n p ∷ m) ≡ valueOf x m
 unfolding valueOf
 value-old n x p m e = rw (e, valueOf)
-
--- the number that a value gives
-copied-is : (m : List Bound) (n p : ℕ) → valueOf n m ≡ some p → copied m n ≡ p
-unfolding copied
-copied-is m n p e = rw (e, copied)
 
 -- a lifted node has a value
 lifted-value : (s : Lifting) (n : ℕ) → isLifted s n ≡ true → valueOf n (s .memo) ≡ some (copied (s .memo) n)
