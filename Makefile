@@ -1,11 +1,12 @@
 # make demo: build what exists and run it on the shipped example.
 # make test: the gate.
 # make vectors: record the vectors anew from the Rust original's source, HORN=FOLDER.
+# make bench: time the library beside the Rust original, HORN=FOLDER.
 HORN ?= ../shared/docs/src
 CARGO = CARGO_TARGET_DIR=$(CURDIR)/target/tools cargo
 TOOLS = target/tools/release
 
-.PHONY: demo test tools oracle vectors
+.PHONY: demo test tools oracle vectors bench
 
 test:
 	.ci/run
@@ -18,6 +19,11 @@ oracle: tools
 
 vectors: oracle
 	$(TOOLS)/oracle vectors tests/vectors examples/nat.horn tests/cases/*.horn
+
+bench: tools
+	@rt staticlib interner > target/interner.log 2>&1 || { cat target/interner.log; exit 1; }
+	@HORN_SRC=$(realpath $(HORN)) RATTLE_LIB=$(CURDIR)/target/staticlib $(CARGO) build --offline --locked --release --quiet --manifest-path tools/Cargo.toml -p bench --features original
+	@$(TOOLS)/bench intern
 
 demo: tools
 	@rt check records > target/demo.log 2>&1 || { cat target/demo.log; exit 1; }

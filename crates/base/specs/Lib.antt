@@ -1,3 +1,9 @@
 -- Laws of bytes in lent buffers.
+pub mod Part
+pub mod Listed
+pub mod Hash
+pub mod Probe
+pub mod Stack
+pub mod Same
 pub mod Zero
 pub mod Text

@@ -8,15 +8,16 @@ use native.Mathlib.Decide.{decLe}
 use native.Mathlib.Omega.{arith}
 use borrow.Author.Tests.{le-leb, lt-leb}
 use lib.Dec.{leb}
-use lib.ListN.{length, take, drop, set, length-append, length-drop}
-use lib.Seq.{length-take-le, take-at, lt-length-set, take-set-le, drop-cons, getD-set-same, drop-set-lt, set-split}
+use lib.ListN.{length, take, set, length-append}
+use lib.Seq.{lt-length-set, take-set-le, drop-drop, drop-cons, getD-set-same, drop-set-lt, set-split}
+use Rattle.base.specs.Part.{put, length-put, take-put}
 use Rattle.definition.specs.Decimal.{decimal, decimal-few, decimal-more, length-more}
 use Rattle.base.specs.declared.decimal.Put.{Put}
 use Rattle.base.specs.declared.decimal.Put.the-variants.{End, Short}
 
 -- the text t with the bytes bs in place of those that stood at `at`
 unfoldable pub over : ℕ → List ℕ → List ℕ → List ℕ
-over at bs t = take at t ++ (bs ++ drop (at + length bs) t)
+over at bs t = put at (length bs) bs t
 
 -- what a write answers and leaves
 pub record Wrote : Type 0 where
@@ -35,14 +36,12 @@ write t at bs =
 -- up to the end of what was written: what stood before, and the bytes
 pub take-over : (at : ℕ) (bs t : List ℕ) → at ≤ length t → take (at + length bs) (over at bs t) ≡ take at t ++ bs
 unfolding over
-take-over at bs t h =
-    let l : length (take at t ++ bs) ≡ at + length bs = simp length-append (ap (λ (n : ℕ). n + length bs) (length-take-le at t h)) in
-    rw (← append-assoc (take at t)) (take-at (take at t ++ bs) (drop (at + length bs) t) (at + length bs) l)
+take-over at bs t h = take-put at (length bs) t bs h refl
 
 -- the length stays
 pub length-over : (at : ℕ) (bs t : List ℕ) → at + length bs ≤ length t → length (over at bs t) ≡ length t
 unfolding over
-length-over at bs t h = simp (length-append, length-drop) (omega (arith, length-take-le at t (omega arith)))
+length-over at bs t h = length-put at (length bs) t h bs refl
 
 -- where all have room
 pub write-fits : (t : List ℕ) (at : ℕ) (bs : List ℕ) (e : ℕ) (u : List ℕ) → e ≡ at + length bs → e ≤ length t → u ≡ over at bs t
@@ -86,15 +85,14 @@ pub over-last : (at : ℕ) (bs : List ℕ) (b : ℕ) (t : List ℕ) → at + len
 unfolding over
 over-last at bs b t h =
     let n = at + length bs in
-    let a : at ≤ n = omega arith in
     let l : n < length (set t n b) = lt-length-set t n b h in
     let e : at + length (bs ++ (b ∷ [])) ≡ suc n = simp length-append (omega arith) in
-    rw (take-set-le at t n b a, drop-cons (set t n b) n 0 l, getD-set-same t n b 0 h, drop-set-lt (suc n) t n b (omega arith), append-assoc bs, e)
+    rw (drop-drop (length bs) at, drop-drop (length (bs ++ (b ∷ []))) at, take-set-le at t n b (omega arith), drop-cons (set t n b) n 0 l, getD-set-same t n b 0 h, drop-set-lt (suc n) t n b (omega arith), append-assoc bs, e)
 
 -- one byte is one store
 pub over-one : (at b : ℕ) (t : List ℕ) → at < length t → over at (b ∷ []) t ≡ set t at b
 unfolding over
-over-one at b t h = rw (set-split, add-one)
+over-one at b t h = rw (drop-drop, set-split, add-one)
 
 -- one turn of writing digits from the last one back: the last is stored, those of the tenth are left
 pub decimal-turn : (at m i : ℕ) (t : List ℕ) → 10 ≤ m → i + 1 ≡ at + length (decimal m) → i < length t

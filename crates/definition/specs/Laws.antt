@@ -10,6 +10,8 @@ pub mod Matches
 pub mod Agreement
 pub mod Check
 pub mod Run
+pub mod Store
 pub mod Put
 pub mod Body
 pub mod Encode
+pub mod Prefix

@@ -2,9 +2,9 @@
 use mathlib.Core.Bool.{Bool, true, false}
 use mathlib.Core.List.{List, [], _∷_, _++_}
 use mathlib.Core.Option.{Option, none, some}
-use Prim.Native.Nat.{ℕ, suc}
+use Prim.Native.Nat.{ℕ, zero, suc}
 use lib.Dec.{eqb}
-use lib.ListN.{length, getD}
+use lib.ListN.{length, getD, take, drop}
 use Rattle.definition.specs.Pack.{Term, Terms, var, app, nil, cons, Node, noNode}
 use Rattle.definition.specs.Certificate.{sameNode}
 
@@ -47,6 +47,13 @@ intern s n = elim (placeOf n s 0) [ some i ↦ record { number = i; store = s } 
 unfoldable pub patternWords : List Node → List ℕ
 patternWords [] = []
 patternWords (n ∷ ns) = (length (n .args) ∷ n .head ∷ n .args) ++ patternWords ns
+
+-- the words read back: k nodes at most. Zeros behind the last are nodes without arguments, which none names
+unfoldable pub nodesIn : ℕ → List ℕ → List Node
+nodesIn zero ws = []
+nodesIn (suc k) [] = []
+nodesIn (suc k) (n ∷ []) = []
+nodesIn (suc k) (n ∷ h ∷ ws) = record { head = h; args = take n ws } ∷ nodesIn k (drop n ws)
 
 -- the terms of these numbers
 unfoldable pub pickTerms : List Term → List ℕ → Terms

@@ -22,7 +22,8 @@ use Rattle.definition.specs.Laws.Run.{enough-done}
 use Rattle.definition.specs.Laws.Put.{Bytes}
 use Rattle.definition.specs.Laws.Encode.{encode-parsed}
 use Rattle.definition.specs.Laws.Grow.{below-more}
-use Rattle.definition.specs.Store.{nothing, patternWords}
+use Rattle.definition.specs.Laws.Store.{nodes-back, length-words}
+use Rattle.definition.specs.Store.{nothing, patternWords, nodesIn}
 use Rattle.definition.specs.Answer.{Lent, answer, lengths, padded, mostCells}
 use Rattle.definition.specs.Run.{Run, done, outcome}
 use Rattle.definition.specs.Keys.{firstOf, Keyed, keyed}
@@ -40,22 +41,7 @@ use Rattle.theory.specs.Classes.Steps.{Concludes, step-derived}
 use Rattle.theory.specs.Classes.Built.{BuiltGood}
 use Rattle.theory.specs.Classes.RuleClass.{rule-made}
 use Rattle.theory.specs.Classes.GoalsMet.{never-stops}
-use Rattle.theory.specs.Principal.{nodesIn, patternsIn, rowIn, conclusionIn, Principal, DemandThree}
-
--- patterns' words are read back as the patterns, whatever stands behind them
-nodes-back : (k : ℕ) (s : List Node) (zs : List ℕ) → length s ≤ k → nodesIn k (patternWords s ++ zs) ≡ s ++ nodesIn (k - length s) zs
-unfolding nodesIn patternWords
-nodes-back k [] zs h = let e : k - 0 ≡ k = omega arith in rw e
-nodes-back zero (n ∷ s) zs h = absurd (omega arith)
-nodes-back (suc k) (n ∷ s) zs h =
-    let e = append-assoc (n .args) (patternWords s) zs in
-    let m : suc k - suc (length s) ≡ k - length s = omega arith in
-    rw (e, take-append-seam (n .args) (patternWords s ++ zs), drop-append-seam (n .args) (patternWords s ++ zs), m) (ap (λ (ns : List Node). n ∷ ns) (nodes-back k s zs (omega arith)))
-
-length-words : (s : List Node) → length s ≤ length (patternWords s)
-unfolding patternWords
-length-words [] = omega arith
-length-words (n ∷ s) = let i = length-words s in let l = length-append (n .args) (patternWords s) in omega arith
+use Rattle.theory.specs.Principal.{patternsIn, rowIn, conclusionIn, Principal, DemandThree}
 
 -- so they begin what is read from the buffer
 patterns-begin : (n : ℕ) (s : List Node) → Grows s (patternsIn (padded n (patternWords s)))
@@ -76,8 +62,9 @@ row-back (x ∷ cs) (k ∷ ks) zs (suc c) e h =
     let marks = map mark (x .flex) in
     let l : length (x .flex) ≡ length marks = sym (length-map (x .flex) mark) in
     let a = append-assoc marks (rowWords cs ks) zs in
-    let d : drop (length (x .flex)) (marks ++ (rowWords cs ks ++ zs)) ≡ rowWords cs ks ++ zs = ap (λ (i : ℕ). drop i (marks ++ (rowWords cs ks ++ zs))) l ∙ drop-append-seam marks (rowWords cs ks ++ zs) in
-    rw (a, d) (row-back cs ks zs c (omega arith) (omega arith))
+    let d : drop (length (x .flex)) ((marks ++ rowWords cs ks) ++ zs) ≡ rowWords cs ks ++ zs = ap₂ drop l a ∙ drop-append-seam marks (rowWords cs ks ++ zs) in
+    let on : rowIn (rowWords (x ∷ cs) (k ∷ ks) ++ zs) (suc c) ≡ rowIn (rowWords cs ks ++ zs) c = ap (λ (ws : List ℕ). rowIn ws c) d in
+    ap (λ (ws : List ℕ). getD ws 0 0) on ∙ row-back cs ks zs c (omega arith) (omega arith)
 
 -- the first words are each step's class
 module _ (P : Pack) (G : Good P) (b : Built) (n : ℕ) where

@@ -2,3 +2,4 @@
 pub mod Needed
 pub mod Keyed
 pub mod KeyedLaws
+pub mod Summed

@@ -8,6 +8,7 @@ use lib.Dec.{eqb}
 use lib.ListN.{length, getD, take, drop}
 use Rattle.definition.specs.Test.{any}
 use Rattle.definition.specs.Pack.{Node, Pack, stepOf}
+use Rattle.definition.specs.Store.{nodesIn}
 use Rattle.definition.specs.Tree.{Tree, treeOf}
 use Rattle.definition.specs.Frame.{fine}
 use Rattle.definition.specs.Parse.{parse}
@@ -17,13 +18,6 @@ use Rattle.definition.specs.Run.{LongEnough}
 use Rattle.definition.specs.Keys.{needed}
 use Rattle.definition.specs.Calls.{classRun, classesLent, Left}
 use Rattle.theory.specs.Derive.{Judgment, InstanceOf, Derivation, Shape}
-
--- "per node a count, then head and arguments": k nodes at most. Zeros behind the last are nodes without arguments, which none names
-unfoldable pub nodesIn : ℕ → List ℕ → List Node
-nodesIn zero ws = []
-nodesIn (suc k) [] = []
-nodesIn (suc k) (n ∷ []) = []
-nodesIn (suc k) (n ∷ h ∷ ws) = record { head = h; args = take n ws } ∷ nodesIn k (drop n ws)
 
 -- the pattern nodes, "by their number"
 unfoldable pub patternsIn : List ℕ → List Node

@@ -23,7 +23,7 @@ unfolding matched
 matched-some none e = never (cc)
 matched-some (some cs) e = (cs, refl)
 
-onwards-some : (m : Option (List Bound)) (f : List Bound → Option (List Bound)) (cs : List Bound) → onwards m f ≡ some cs
+pub onwards-some : (m : Option (List Bound)) (f : List Bound → Option (List Bound)) (cs : List Bound) → onwards m f ≡ some cs
     → (bs : List Bound) × (m ≡ some bs) × (f bs ≡ some cs)
 unfolding onwards
 onwards-some none f cs e = never (cc)
@@ -83,7 +83,7 @@ passes-complete P G O i h p =
     rw (ps .found, onwards, c .found, matched)
 
 -- some element passes just where one can be named
-any-some : {A : Type 0} (f : A → Bool) (d : A) (xs : List A) → any f xs ≡ true → (i : ℕ) × (i < length xs) × (f (getD xs i d) ≡ true)
+pub any-some : {A : Type 0} (f : A → Bool) (d : A) (xs : List A) → any f xs ≡ true → (i : ℕ) × (i < length xs) × (f (getD xs i d) ≡ true)
 unfolding any
 any-some f d [] e = never (cc)
 any-some f d (x ∷ xs) e = elim (see (f x)) [
@@ -91,7 +91,7 @@ any-some f d (x ∷ xs) e = elim (see (f x)) [
   | is false p ↦ let r = any-some f d xs (rw p at e) in (suc (r .0), omega (arith, r .1), r .2)
 ]
 
-some-any : {A : Type 0} (f : A → Bool) (d : A) (xs : List A) (i : ℕ) → i < length xs → f (getD xs i d) ≡ true → any f xs ≡ true
+pub some-any : {A : Type 0} (f : A → Bool) (d : A) (xs : List A) (i : ℕ) → i < length xs → f (getD xs i d) ≡ true → any f xs ≡ true
 unfolding any
 some-any f d [] i h e = absurd (omega arith)
 some-any f d (x ∷ xs) zero h e = rw e

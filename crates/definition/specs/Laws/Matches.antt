@@ -124,10 +124,11 @@ found-var P G O ν k n bs h a g e = elim (see (valueOf k bs)) [
       record { values = bs; found = rw (p, eq-eqb m n q, bound); agrees = a; given = g }
 ]
 
-tree-parts : {h k : ℕ} {ts us : Trees} → tree h ts ≡ tree k us → (h ≡ k) × (ts ≡ us)
+-- the parts of equal trees
+pub tree-parts : {h k : ℕ} {ts us : Trees} → tree h ts ≡ tree k us → (h ≡ k) × (ts ≡ us)
 tree-parts e = (cc, cc)
 
-then-parts : {t u : Tree} {ts us : Trees} → tree-then t ts ≡ tree-then u us → (t ≡ u) × (ts ≡ us)
+pub then-parts : {t u : Tree} {ts us : Trees} → tree-then t ts ≡ tree-then u us → (t ≡ u) × (ts ≡ us)
 then-parts e = (cc, cc)
 
 -- an assignment that turns the term into the node's tree is found

@@ -47,7 +47,7 @@ words-length zero s = refl
 words-length (suc n) s = ap suc (words-length n (drop 4 s))
 
 -- a good result of two steps, for what follows from both
-bind-then : {A B C : Type 0} {m : Checked A} {f : A → Checked B} {b : B}
+pub bind-then : {A B C : Type 0} {m : Checked A} {f : A → Checked B} {b : B}
     → m >>= f ≡ good b → ((a : A) → m ≡ good a → f a ≡ good b → C) → C
 bind-then e k =
     let g = bind-good _ _ _ e in

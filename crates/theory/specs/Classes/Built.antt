@@ -15,12 +15,13 @@ use Rattle.definition.specs.Good.{Good}
 use Rattle.definition.specs.Store.{nothing}
 use Rattle.definition.specs.Keys.{noKeyed, keyOf, needed, keyed}
 use Rattle.definition.specs.Classes.{Class, noClass, Built}
+use Rattle.definition.specs.Laws.Store.{StoreOnce}
 use Rattle.theory.specs.Derive.{InstanceOf, StepOf}
 use Rattle.theory.specs.Classes.Steps.{Concludes}
 use Rattle.theory.specs.Keys.Needed.{Among}
 use Rattle.theory.specs.Keys.KeyedLaws.{keyed-kept}
 use Rattle.theory.specs.Copies.Terms.{Earlier}
-use Rattle.theory.specs.Patterns.Interned.{Grows, StoreOnce}
+use Rattle.theory.specs.Patterns.Interned.{Grows}
 use Rattle.theory.specs.Patterns.Sorted.{SortedPattern, sorted-grows, sorted-inside}
 use Rattle.theory.specs.Patterns.Instances.{instance-grows, instance-before}
 

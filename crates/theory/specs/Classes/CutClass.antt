@@ -15,11 +15,12 @@ use Rattle.definition.specs.Analysis.{StoredAll}
 use Rattle.definition.specs.Run.{Note, Run, done, behind, _>>=_}
 use Rattle.definition.specs.Keys.{predicateOf, isCut, cutKey, ruleKey, noKeyed, keyOf, keyed}
 use Rattle.definition.specs.Classes.{Class, Built, addClass, freshVariables, makeCut}
+use Rattle.definition.specs.Laws.Store.{StoreOnce}
 use Rattle.theory.specs.Derive.{SortedTrees, Judgment, InstanceOf, Derivation, leaf, by, StepOf, Shape}
 use Rattle.theory.specs.Classes.Steps.{Concludes}
 use Rattle.theory.specs.Keys.KeyedLaws.{keyed-kept}
 use Rattle.theory.specs.Copies.Terms.{Earlier, termsAt, below-variable}
-use Rattle.theory.specs.Patterns.Interned.{Grows, grows-none, grows-then, grows-long, grows-at, StoreOnce, interned, below-args}
+use Rattle.theory.specs.Patterns.Interned.{Grows, grows-none, grows-then, grows-long, grows-at, interned, below-args}
 use Rattle.theory.specs.Patterns.Sorted.{SortedPattern, variable, application, SortedPatterns, none, more, variable-is, sorteds-grow}
 use Rattle.theory.specs.Patterns.Instances.{turn-variable, turn-applied, instance-of, instance-sort}
 use Rattle.theory.specs.Patterns.Resolved.{terms-grow}

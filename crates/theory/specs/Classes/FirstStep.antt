@@ -10,7 +10,6 @@ use Rattle.definition.specs.Test.{is, see, never}
 use Rattle.definition.specs.Pack.{Term, Terms, nil, cons, Pack, ruleOf, stepOf}
 use Rattle.definition.specs.Tree.{Tree, tree-then, treeOf, turn, turns}
 use Rattle.definition.specs.Good.{Below, Good}
-use Rattle.definition.specs.Store.{nothing}
 use Rattle.definition.specs.Verdict.{judgments, Accepted}
 use Rattle.definition.specs.Keys.{firstOf, predicateOf, isCut, cutKey, ruleKey, noKeyed, keyOf, needed, keyed}
 use Rattle.definition.specs.Classes.{Built}
@@ -102,10 +101,10 @@ module _ (P : Pack) (G : Good P) (A : Accepted P) (b : Built) (B : BuiltGood P (
       }
 
 -- the first step of a rule's class is so
-pub first-step : (P : Pack) → Good P → (A : Accepted P) → length (P .steps) < nothing → (b : Built) → BuiltGood P (keyed P .words) b → length (b .classes) < length (keyed P .classes)
+pub first-step : (P : Pack) → Good P → (A : Accepted P) (b : Built) → BuiltGood P (keyed P .words) b → length (b .classes) < length (keyed P .classes)
     → (r : ℕ) (cs : List ℕ) → getD (keyed P .classes) (length (b .classes)) noKeyed .key ≡ ruleKey r cs
     → FirstStep P A (keyed P .words) b (getD (keyed P .classes) (length (b .classes)) noKeyed .first)
-first-step P G A few b B h r cs key =
+first-step P G A b B h r cs key =
     let words = keyed P .words in
     let c = length (b .classes) in
     let K = keyed-kept P G in

@@ -13,6 +13,7 @@ use Rattle.definition.specs.Good.{Below, Sorted, SortedAll, Few}
 use Rattle.definition.specs.Store.{termOf}
 use Rattle.definition.specs.Graph.{Graph, Grown, unify}
 use Rattle.definition.specs.Analysis.{Copy, copied, copy, instantiate}
+use Rattle.definition.specs.Laws.Store.{StoreOnce}
 use Rattle.theory.specs.Unification.Solve.{Solves, sortAt, Formed, SameNodes}
 use Rattle.theory.specs.Copies.Begin.{begins-trans, solves-begins, sortAt-begins}
 use Rattle.theory.specs.Copies.Push.{Extends}
@@ -23,7 +24,6 @@ use Rattle.theory.specs.Copies.Terms.{Earlier}
 use Rattle.theory.specs.Copies.Parts.{parts-self}
 use Rattle.theory.specs.Copies.Copying.{CopyOf}
 use Rattle.theory.specs.Copies.Copy.{Copied, copy-says}
-use Rattle.theory.specs.Patterns.Interned.{StoreOnce}
 use Rattle.theory.specs.Patterns.Sorted.{SortedPattern, sorted-inside, sorted-sort, sorted-formed, sorted-each}
 
 -- assignments that agree on a rule's variables turn its terms into the same trees

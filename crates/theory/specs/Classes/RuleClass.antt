@@ -220,4 +220,4 @@ module _ (P : Pack) (G : Good P) (F : Few P) (few : length (P .steps) < nothing)
 
 -- a class of a rule is made, and is exact
 pub rule-made : (P : Pack) → Good P → Few P → Once P → Accepted P → length (P .steps) < nothing → RuleMade P
-rule-made P G F O A few b B low r cs key = step-made P G F few O A b B low (getD (keyed P .classes) (length (b .classes)) noKeyed .first) (first-step P G A few b B low r cs key)
+rule-made P G F O A few b B low r cs key = step-made P G F few O A b B low (getD (keyed P .classes) (length (b .classes)) noKeyed .first) (first-step P G A b B low r cs key)

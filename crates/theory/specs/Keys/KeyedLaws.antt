@@ -66,11 +66,11 @@ first-set xs c d h = elim (see (eqb d c)) [
 ]
 
 -- one more among the first n, and none more
-count-in : (wanted : List ℕ) (n : ℕ) → Among n wanted → countOf (λ s. any (eqb s) wanted) (upTo (suc n)) ≡ suc (countOf (λ s. any (eqb s) wanted) (upTo n))
+pub count-in : (wanted : List ℕ) (n : ℕ) → Among n wanted → countOf (λ s. any (eqb s) wanted) (upTo (suc n)) ≡ suc (countOf (λ s. any (eqb s) wanted) (upTo n))
 unfolding upTo countOf
 count-in wanted n h = count-append (λ s. any (eqb s) wanted) (upTo n) (n ∷ []) ∙ rw (h, countOf) (omega arith)
 
-count-out : (wanted : List ℕ) (n : ℕ) → any (eqb n) wanted ≡ false → countOf (λ s. any (eqb s) wanted) (upTo (suc n)) ≡ countOf (λ s. any (eqb s) wanted) (upTo n)
+pub count-out : (wanted : List ℕ) (n : ℕ) → any (eqb n) wanted ≡ false → countOf (λ s. any (eqb s) wanted) (upTo (suc n)) ≡ countOf (λ s. any (eqb s) wanted) (upTo n)
 unfolding upTo countOf
 count-out wanted n h = count-append (λ s. any (eqb s) wanted) (upTo n) (n ∷ []) ∙ rw (h, countOf) (omega arith)
 

@@ -13,8 +13,9 @@ use Rattle.definition.specs.Good.{Below}
 use Rattle.definition.specs.Store.{variableNode, isVariable, below, intern}
 use Rattle.definition.specs.Graph.{Graph, vertex, root, isVar}
 use Rattle.definition.specs.Analysis.{copied, Numbered, Resolved, numberOf, resolveVariable, resolveAt, resolve}
+use Rattle.definition.specs.Laws.Store.{StoreOnce}
 use Rattle.theory.specs.Copies.Terms.{Earlier}
-use Rattle.theory.specs.Patterns.Interned.{Grows, grows-none, grows-then, grows-long, StoreOnce, interned, lifted, below-args}
+use Rattle.theory.specs.Patterns.Interned.{Grows, grows-none, grows-then, grows-long, interned, lifted, below-args}
 
 -- a store that has grown and is sound
 pub record Sound (s t : List Node) : Type 0 where

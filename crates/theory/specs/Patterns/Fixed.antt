@@ -172,18 +172,3 @@ module _ (P : Pack) (G : Good P) (W : Few P) (g : Graph) (values : List Bound) (
             ∙ sym (solves-root θ P g F S x (b .0)))
             (R .meaning ρ M);
       }
-
--- what holds everywhere holds of these
-each-all : (xs : List ℕ) → Each (λ x. Unit {0}) xs
-each-all [] = tt
-each-all (x ∷ xs) = (tt, each-all xs)
-
--- THE THEOREM: with only flexible variables numbered anew, and a value that agrees with the solution for each other that has no number, patterns stand for their nodes' trees
-pub fixed-means : (P : Pack) → Good P → Few P → (g : Graph) → Formed P g → (values : List Bound) (θ : ℕ → Tree) → Solves θ g → Agreeing P θ values → (st : Numbered) → Earlier (st .store)
-    → ((r : ℕ) → r < length g → vertex g r .link ≡ none → isVar (vertex g r) ≡ true → vertex g r .flex ≡ false → numberOf r (st .numbering) 0 ≡ none → (m : ℕ) × (valueOf r values ≡ some m))
-    → (d : ℕ) (xs : List ℕ) → Below (length g) xs → all (λ x. ends d g x) xs ≡ true
-    → (ρ : ℕ → Tree) → Means θ (resolve d P g values false xs st .state .numbering) ρ
-    → turns ρ (termsAt (resolve d P g values false xs st .state .store) (resolve d P g values false xs st .patterns)) ≡ treesAt θ xs
-fixed-means P G W g F values θ S A st E known d xs b e ρ M =
-    fix-back P G W g values false θ A (st .numbering) (λ x. Unit {0}) (record { roots = λ x l q. tt; args = λ r l o w q. each-all (vertex g r .args) }) (λ r l o w q f n. known r l o w f n)
-    d xs st E (grows-none (st .numbering)) F S b (each-all xs) e .meaning ρ M

@@ -13,6 +13,7 @@ use Rattle.definition.specs.Test.{Is, is, see, never, tests, _and_, and-parts, 
 use Rattle.definition.specs.Pack.{Node, noNode}
 use Rattle.definition.specs.Certificate.{sameNode}
 use Rattle.definition.specs.Good.{Below}
+use Rattle.definition.specs.Laws.Store.{same-node, node-same, place-found, place-none, StoreOnce}
 use Rattle.definition.specs.Store.{isVariable, below, placeOf, Stored, intern}
 use Rattle.definition.specs.Tree.{Tree, Trees, tree, no-trees, tree-then}
 use Rattle.definition.specs.Analysis.{StoredAll, lift, liftAll}
@@ -33,44 +34,6 @@ grows-long xs ys (with a p) = let l = length-append xs a in let m = ap length p 
 
 pub grows-at : {A : Type 0} (xs ys : List A) (d : A) (i : ℕ) → Grows xs ys → i < length xs → getD ys i d ≡ getD xs i d
 grows-at xs ys d i (with a p) h = ap (λ l. getD l i d) p ∙ List·getD-append xs a d i h
-
-pub same-node : (n m : Node) → sameNode n m ≡ true → n ≡ m
-unfolding sameNode
-same-node n m e =
-    let p = and-parts (eqb (n .head) (m .head)) (same (n .args) (m .args)) e in
-    let h = eqb-true (n .head) (m .head) (p .0) in
-    let a = same-true (n .args) (m .args) (p .1) in
-    λ i. record { head = h i; args = a i }
-
--- the place that is found holds the node
-place-found : (n : Node) (s : List Node) (i p : ℕ) → placeOf n s i ≡ some p → (k : ℕ) × (p ≡ i + k) × (k < length s) × (getD s k noNode ≡ n)
-unfolding placeOf
-place-found n [] i p e = never (cc)
-place-found n (m ∷ s) i p e = elim (see (sameNode n m)) [
-  | is true t ↦ let q : some i ≡ some p = rw (t, placeOf) at e in let r : i ≡ p = cc in (0, omega arith, omega arith, sym (same-node n m t))
-  | is false t ↦ let r = place-found n s (suc i) p (rw (t, placeOf) at e) in (suc (r .0), omega (arith, r .1), omega (arith, r .2), r .3)
-]
-
-pub node-same : (n : Node) → sameNode n n ≡ true
-unfolding sameNode _and_
-node-same n = rw (eq-eqb (n .head) (n .head) refl, _and_) (same-refl (n .args))
-
--- where none is found none is the node
-place-none : (n : Node) (s : List Node) (i k : ℕ) → placeOf n s i ≡ none → k < length s → getD s k noNode ≡ n → ⊥
-unfolding placeOf
-place-none n [] i k e h q = absurd (omega arith)
-place-none n (m ∷ s) i zero e h q = elim (see (sameNode n m)) [
-  | is true t ↦ never (let z : some i ≡ none = rw (t, placeOf) at e in cc)
-  | is false t ↦ never (let z : true ≡ false = sym (node-same n) ∙ ap (sameNode n) (sym q) ∙ t in cc)
-]
-place-none n (m ∷ s) i (suc k) e h q = elim (see (sameNode n m)) [
-  | is true t ↦ never (let z : some i ≡ none = rw (t, placeOf) at e in cc)
-  | is false t ↦ place-none n s (suc i) k (rw (t, placeOf) at e) (omega arith) q
-]
-
--- no node twice
-abbrev pub StoreOnce : List Node → Type 0
-StoreOnce s = (i j : ℕ) → i < length s → j < length s → getD s i noNode ≡ getD s j noNode → i ≡ j
 
 -- one node more that was not there
 once-more : (s : List Node) (n : Node) → StoreOnce s → ((k : ℕ) → k < length s → getD s k noNode ≡ n → ⊥) → StoreOnce (s ++ (n ∷ []))

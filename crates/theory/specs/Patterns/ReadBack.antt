@@ -8,21 +8,23 @@ use native.Mathlib.Omega.{arith}
 use borrow.Author.Tests.{eqb-true, eq-eqb}
 use lib.Dec.{eqb}
 use lib.ListN.{length, getD}
-use Rattle.definition.specs.Test.{_and_, Is, is, see, never, tests, any, all, and-parts}
+use Rattle.definition.specs.Test.{_and_, Is, is, see, any, all, and-parts}
 use Rattle.definition.specs.Pack.{Node, noNode, Pack}
-use Rattle.definition.specs.Tree.{Tree, Trees, tree, tree-then, turn}
+use Rattle.definition.specs.Tree.{Tree, turn}
 use Rattle.definition.specs.Verdict.{Bound}
+use Rattle.definition.specs.Laws.Matches.{then-parts}
+use Rattle.definition.specs.Laws.Agreement.{any-some, some-any}
 use Rattle.definition.specs.Store.{isVariable, termOf}
 use Rattle.definition.specs.Graph.{Graph, vertex, isVar, ends}
 use Rattle.definition.specs.Analysis.{parts, Numbered, Resolved, numberOf, resolve}
-use Rattle.theory.specs.Derive.{SortedTree, In, InstanceOf}
+use Rattle.definition.specs.Laws.Store.{StoreOnce}
+use Rattle.theory.specs.Derive.{SortedTree, In, at, InstanceOf}
 use Rattle.theory.specs.Unification.Solve.{treesAt, Solves, sortAt, Formed}
 use Rattle.theory.specs.Copies.Begin.{sortAt-variable}
 use Rattle.theory.specs.Unification.Acyclic.{Ending, value, extends, chosen}
 use Rattle.theory.specs.Copies.Terms.{Earlier, termsAt}
-use Rattle.theory.specs.Copies.Parts.{here, there, in-front, in-here, in-there, in-none}
 use Rattle.theory.specs.Copies.Copying.{numberAt}
-use Rattle.theory.specs.Patterns.Interned.{Grows, StoreOnce}
+use Rattle.theory.specs.Patterns.Interned.{Grows}
 use Rattle.theory.specs.Patterns.Sorted.{SortedPattern, SortedPatterns, more, sorted-inside, sorted-parts, sorted-variable}
 use Rattle.theory.specs.Patterns.Instances.{variableSort, turn-agree}
 use Rattle.theory.specs.Patterns.Resolved.{Means, number-found, read-back}
@@ -41,9 +43,6 @@ pub record ReadBack (P : Pack) (g : Graph) (x so : ℕ) (store : List Node) (r :
   pub numbers : Numbers g (r .state .numbering)
   pub sorted : SortedPattern P (r .state .store) (sortsBy g (r .state .numbering)) (getD (r .patterns) 0 0) so
   pub meaning : (θ : ℕ → Tree) → Solves θ g → (ρ : ℕ → Tree) → Means θ (r .state .numbering) ρ → turn ρ (termOf (r .state .store) (getD (r .patterns) 0 0)) ≡ θ x
-
-first-of : {t u : Tree} {ts us : Trees} → tree-then t ts ≡ tree-then u us → t ≡ u
-first-of e = cc
 
 first-sorted : (P : Pack) (s : List Node) (sorts : ℕ → ℕ) (p so : ℕ) → SortedPatterns P s sorts (p ∷ []) (so ∷ []) → SortedPattern P s sorts p so
 first-sorted P s sorts p so (more _ _ _ _ S Ss) = S
@@ -64,7 +63,7 @@ read-one P values g F d x so store h e q E θ S =
       once = R .once;
       numbers = N .numbers (numbers-none g);
       sorted = first-sorted P (r .state .store) (sortsBy g (r .state .numbering)) (getD (r .patterns) 0 0) so (N .sorted (sortsBy g (r .state .numbering)) (λ k l. refl) (so ∷ []) (e, tt));
-      meaning = λ ϕ Z ρ M. first-of (read-back P g values true ϕ (suc d) (x ∷ []) st E F Z (h, tt) a .meaning refl ρ M);
+      meaning = λ ϕ Z ρ M. then-parts (read-back P g values true ϕ (suc d) (x ∷ []) st E F Z (h, tt) a .meaning refl ρ M) .0;
     }
 
 -- a variable among a sorted pattern's parts has the sort that goes with its number
@@ -74,20 +73,10 @@ part-sort P s sorts p so S q i v = let R = sorted-parts P s sorts p so S q i in 
 
 -- an element that passes
 any-at : (f : ℕ → Bool) (xs : List ℕ) (x : ℕ) → In x xs → f x ≡ true → any f xs ≡ true
-unfolding any
-any-at f [] x i e = absurd (in-none x i)
-any-at f (y ∷ ys) x i e = elim (see (f y)) [
-  | is true p ↦ rw p
-  | is false p ↦ elim (in-front x y ys i) [ here q ↦ never (let z : true ≡ false = sym e ∙ ap f q ∙ p in cc) | there t ↦ rw (p, any-at f ys x t e) ]
-]
+any-at f xs x (at i d l q) e = some-any f d xs i l (ap f q ∙ e)
 
-any-some : (f : ℕ → Bool) (xs : List ℕ) → any f xs ≡ true → (x : ℕ) × In x xs × (f x ≡ true)
-unfolding any
-any-some f [] e = never (cc)
-any-some f (y ∷ ys) e = elim (see (f y)) [
-  | is true p ↦ (y, in-here y ys, p)
-  | is false p ↦ let r = any-some f ys (rw p at e) in (r .0, in-there (r .0) y ys (r .1), r .2)
-]
+any-in : (f : ℕ → Bool) (xs : List ℕ) → any f xs ≡ true → (x : ℕ) × In x xs × (f x ≡ true)
+any-in f xs e = let r = any-some f 0 xs e in (getD xs (r .0) 0, at (r .0) 0 (r .1) refl, r .2)
 
 -- whether a pattern has a variable of this number
 unfoldable hasVariable : List Node → ℕ → ℕ → Bool
@@ -95,7 +84,7 @@ hasVariable s p k = any (λ q. isVariable (getD s q noNode) and eqb (numberAt s 
 
 variable-of : (s : List Node) (p k : ℕ) → hasVariable s p k ≡ true → (q : ℕ) × In q (parts s p) × (isVariable (getD s q noNode) and eqb (numberAt s q) k ≡ true)
 unfolding hasVariable
-variable-of s p k h = any-some (λ q. isVariable (getD s q noNode) and eqb (numberAt s q) k) (parts s p) h
+variable-of s p k h = any-in (λ q. isVariable (getD s q noNode) and eqb (numberAt s q) k) (parts s p) h
 
 -- one assignment where a pattern has variables, another elsewhere
 unfoldable patched : List Node → ℕ → (ℕ → Tree) → (ℕ → Tree) → ℕ → Tree

@@ -17,11 +17,12 @@ use Rattle.definition.specs.Good.{Below}
 use Rattle.definition.specs.Store.{variableHead, variableNode, isVariable, below, termOf, intern}
 use Rattle.definition.specs.Graph.{Graph, vertex, root, isVar, ends}
 use Rattle.definition.specs.Analysis.{copied, Numbered, ResolvedOne, Resolved, numberOf, resolveVariable, resolveAt, resolve}
+use Rattle.definition.specs.Laws.Store.{StoreOnce}
 use Rattle.theory.specs.Unification.Solve.{treesAt, Solves, Formed}
 use Rattle.theory.specs.Unification.Acyclic.{solves-root}
 use Rattle.theory.specs.Patterns.Valued.{deep-ends}
 use Rattle.theory.specs.Copies.Terms.{Earlier, termsAt, term-variable, term-applied, term-append}
-use Rattle.theory.specs.Patterns.Interned.{Grows, with, grows-none, grows-then, grows-long, grows-at, StoreOnce, interned, lifted, below-args}
+use Rattle.theory.specs.Patterns.Interned.{Grows, with, grows-none, grows-then, grows-long, grows-at, interned, lifted, below-args}
 
 -- a number's term in a store that has grown
 pub term-grows : (s t : List Node) (n : ℕ) → Grows s t → n < length s → termOf t n ≡ termOf s n

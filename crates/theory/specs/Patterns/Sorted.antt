@@ -9,10 +9,11 @@ use Rattle.definition.specs.Test.{never}
 use Rattle.definition.specs.Pack.{Node, noNode, Pack, symbolOf}
 use Rattle.definition.specs.Store.{variableNode, isVariable, below}
 use Rattle.definition.specs.Analysis.{parts}
+use Rattle.definition.specs.Laws.Store.{StoreOnce}
 use Rattle.theory.specs.Derive.{In}
 use Rattle.theory.specs.Copies.Terms.{Earlier, below-variable, below-applied}
 use Rattle.theory.specs.Copies.Parts.{here, there, in-front, in-none, in-here, in-there, parts-self}
-use Rattle.theory.specs.Patterns.Interned.{Grows, grows-long, grows-at, StoreOnce}
+use Rattle.theory.specs.Patterns.Interned.{Grows, grows-long, grows-at}
 use Rattle.theory.specs.Patterns.Inherit.{Inherited, parts-inherit, part-inherited}
 use Rattle.theory.specs.Copies.Copying.{numberAt, patternSort}
 use Rattle.theory.specs.Copies.CopyNode.{PatternSorts, PartsFormed, OneEach}

@@ -10,10 +10,11 @@ use lib.Dec.{eqb}
 use lib.ListN.{length}
 use Rattle.definition.specs.Test.{Is, is, see, never, all, and-parts}
 use Rattle.definition.specs.Pack.{Pack, nodeOf}
-use Rattle.definition.specs.Tree.{Tree, Trees, tree, tree-then, pick, trees, treeOf}
+use Rattle.definition.specs.Tree.{Tree, pick, trees, treeOf}
 use Rattle.definition.specs.Good.{Below, Good, Once}
 use Rattle.definition.specs.Laws.Grow.{below-more}
 use Rattle.definition.specs.Laws.Tree.{args-below, tree-node, tree-once}
+use Rattle.definition.specs.Laws.Matches.{tree-parts, then-parts}
 use Rattle.definition.specs.Verdict.{Bound, valueOf, provided, onwards}
 use Rattle.definition.specs.Graph.{Graph, vertex, root, isVar, ends}
 use Rattle.definition.specs.Analysis.{pairing, valueAt, valued}
@@ -49,12 +50,6 @@ pub record Found (P : Pack) (θ : ℕ → Tree) (o : Option (List Bound)) : Type
   pub values : List Bound
   pub found : o ≡ some values
   pub agrees : Agreeing P θ values
-
-tree-parts : {h k : ℕ} {ts us : Trees} → tree h ts ≡ tree k us → (h ≡ k) × (ts ≡ us)
-tree-parts e = (cc, cc)
-
-then-parts : {t u : Tree} {ts us : Trees} → tree-then t ts ≡ tree-then u us → (t ≡ u) × (ts ≡ us)
-then-parts e = (cc, cc)
 
 -- what is below a term that ends ends a level earlier
 pub deep-ends : (g : Graph) (d x : ℕ) → ends (suc d) g x ≡ true → isVar (vertex g (root g x)) ≡ false → all (λ y. ends d g y) (vertex g (root g x) .args) ≡ true

@@ -10,8 +10,9 @@ use lib.ListN.{length}
 use Rattle.definition.specs.Test.{Is, is, see, never, all}
 use Rattle.definition.specs.Pack.{Pack, nodeOf}
 use Rattle.definition.specs.Tree.{Tree, turns}
-use Rattle.definition.specs.Verdict.{Bound, valueOf, provided, onwards}
+use Rattle.definition.specs.Verdict.{Bound, valueOf, provided}
 use Rattle.definition.specs.Good.{Below, Good, Few}
+use Rattle.definition.specs.Laws.Agreement.{onwards-some}
 use Rattle.definition.specs.Graph.{Graph, vertex, root, isVar, ends}
 use Rattle.definition.specs.Analysis.{pairing, valueAt, valued, Numbered, resolve}
 use Rattle.theory.specs.Unification.Solve.{treesAt, Solves, Formed}
@@ -49,11 +50,6 @@ provided-some : (b : _) (o : Option (List Bound)) (ws : List Bound) → provided
 unfolding provided
 provided-some true o ws e = e
 provided-some false o ws e = never (let z : none ≡ some ws = e in cc)
-
-onwards-some : (o : Option (List Bound)) (f : List Bound → Option (List Bound)) (ws : List Bound) → onwards o f ≡ some ws → (us : List Bound) × (o ≡ some us) × (f us ≡ some ws)
-unfolding onwards
-onwards-some none f ws e = never (let z : none ≡ some ws = e in cc)
-onwards-some (some us) f ws e = (us, refl, e)
 
 -- one value more
 value-here : (r n : ℕ) (vs : List Bound) → valueOf r (pairing r n ∷ vs) ≡ some n

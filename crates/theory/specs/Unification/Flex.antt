@@ -48,7 +48,7 @@ onward-refl P g F = record {
 }
 
 -- more links, and more again
-onward-trans : (P : Pack) (g h k : Graph) → Formed P g → Formed P h → Onward g h → Onward h k → Onward g k
+pub onward-trans : (P : Pack) (g h k : Graph) → Formed P g → Formed P h → Onward g h → Onward h k → Onward g k
 onward-trans P g h k F H A B =
     let m = A .long in
     let via : (z : ℕ) → z < length g → root k z ≡ root k (root h z) = λ z l. B .roots z (omega arith) in

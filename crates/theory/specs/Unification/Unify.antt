@@ -147,7 +147,7 @@ module _ (P : Pack) (g : Graph) (x y : ℕ) (F : Formed P g) (hx : x < length g)
   first none c = λ θ S e. c θ S (e, tt)
   first (some h) c = (c .0, c .1, λ θ S. let b = c .2 θ S in (b .0, b .1 .0), λ θ S e. c .3 θ S (e, tt))
 
-  -- THE THEOREM: a clash means that no solution equates x and y; otherwise the solutions afterwards are those that do
+  -- a clash means that no solution equates x and y; otherwise the solutions afterwards are just those that do
   pub unify-says : Says P g x y (unify g x y .graph)
   unify-says = first (unify g x y .graph) (right .0)
 

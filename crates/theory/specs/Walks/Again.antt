@@ -10,6 +10,7 @@ use lib.ListN.{length}
 use Rattle.definition.specs.Test.{is, see, never, _and_, same-refl}
 use Rattle.definition.specs.Pack.{Node}
 use Rattle.definition.specs.Certificate.{sameNode}
+use Rattle.definition.specs.Laws.Store.{node-same}
 use Rattle.definition.specs.Store.{placeOf, Stored, intern}
 use Rattle.definition.specs.Tree.{Tree, Trees, tree, no-trees, tree-then}
 use Rattle.definition.specs.Analysis.{StoredAll, lift, liftAll}
@@ -27,11 +28,6 @@ storedAll ps s = record { numbers = ps; store = s }
 abbrev pub headed : ℕ → List ℕ → Node
 headed h ps = record { head = h; args = ps }
 
--- a node is the same as itself
-same-self : (n : Node) → sameNode n n ≡ true
-unfolding sameNode
-same-self n = rw (eq-eqb (n .head) (n .head) refl, _and_) (same-refl (n .args))
-
 -- a node that is found is found there in a longer store
 place-longer : (n : Node) (s t : List Node) (i p : ℕ) → placeOf n s i ≡ some p → placeOf n (s ++ t) i ≡ some p
 unfolding placeOf
@@ -44,7 +40,7 @@ place-longer n (m ∷ s) t i p e = elim (see (sameNode n m)) [
 -- a node that is not found is found last once it is put there
 place-last : (n : Node) (s : List Node) (i : ℕ) → placeOf n s i ≡ none → placeOf n (s ++ (n ∷ [])) i ≡ some (i + length s)
 unfolding placeOf
-place-last n [] i e = rw (same-self n, placeOf) (ap some (omega arith))
+place-last n [] i e = rw (node-same n, placeOf) (ap some (omega arith))
 place-last n (m ∷ s) i e = elim (see (sameNode n m)) [
   | is true q ↦ let r : some i ≡ none = rw (q, placeOf) at e in never (cc)
   | is false q ↦ rw (q, placeOf) (place-last n s (suc i) (rw (q, placeOf) at e) ∙ ap some (omega arith))

@@ -1,0 +1,62 @@
+//! Links the library's archive from the folder that RATTLE_LIB names. With the feature
+//! `original` the original's published files are modules where they stand, in the
+//! folder that HORN_SRC names: nothing is added to them, so they run at their own speed.
+use std::path::{Path, PathBuf};
+use std::{env, fs, process};
+
+/// One line, which fails the build.
+fn fail(why: String) -> ! {
+    println!("cargo::error={why}");
+    process::exit(0)
+}
+
+/// The files of a folder that a variable names; each must be there.
+fn named(variable: &str, what: &str, files: &[&str]) -> Vec<PathBuf> {
+    println!("cargo::rerun-if-env-changed={variable}");
+    let Some(folder) = env::var_os(variable).filter(|folder| !folder.is_empty()) else {
+        fail(format!("{variable} must name the folder of {what}"))
+    };
+    let folder = fs::canonicalize(&folder)
+        .unwrap_or_else(|e| fail(format!("{variable}: {}: {e}", Path::new(&folder).display())));
+    let paths: Vec<PathBuf> = files.iter().map(|file| folder.join(file)).collect();
+    for path in &paths {
+        if !path.is_file() {
+            fail(format!("{variable}: no file {}", path.display()));
+        }
+        println!("cargo::rerun-if-changed={}", path.display());
+    }
+    paths
+}
+
+fn main() {
+    for archive in named(
+        "RATTLE_LIB",
+        "the library's archive (it has libinterner.a)",
+        &["libinterner.a"],
+    ) {
+        let folder = archive.parent().unwrap_or(Path::new("/"));
+        println!("cargo::rustc-link-search=native={}", folder.display());
+    }
+    println!("cargo::rustc-link-lib=static=interner");
+
+    if env::var_os("CARGO_FEATURE_ORIGINAL").is_none() {
+        return;
+    }
+    let mut modules = String::new();
+    for path in named(
+        "HORN_SRC",
+        "the original's source (it has src/generalize.rs)",
+        &[
+            "src/generalize.rs",
+            "src/oracle.rs",
+            "src/kernel.rs",
+            "src/schematic.rs",
+        ],
+    ) {
+        let name = path.file_stem().unwrap_or_default().display();
+        modules += &format!("#[allow(dead_code, clippy::all)]\n#[path = {path:?}]\nmod {name};\n");
+    }
+    let out = env::var_os("OUT_DIR").unwrap_or_else(|| fail("OUT_DIR is not set".into()));
+    let target = Path::new(&out).join("original.rs");
+    fs::write(&target, modules).unwrap_or_else(|e| fail(format!("{}: {e}", target.display())));
+}
