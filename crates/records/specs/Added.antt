@@ -4,8 +4,9 @@ use mathlib.Core.List.{List, [], _∷_, _++_, append-assoc}
 use Prim.Native.Nat.{ℕ, suc, _+_, _-_, _<_, _≤_}
 use native.Mathlib.Numerals.{add-one}
 use native.Mathlib.Omega.{arith}
-use lib.ListN.{length, take, set, getD, replicate, length-append, length-set, length-replicate, replicate-append-replicate, take-append-drop}
+use lib.ListN.{length, take, set, getD, replicate, length-append, length-set, length-replicate, replicate-append-replicate}
 use lib.Seq.{length-take-le, take-suc, take-suc-set, drop-at}
+use Rattle.base.specs.Part.{put-none}
 use Rattle.base.specs.Zero.{zeroed}
 use Rattle.base.specs.Text.{Wrote, write, over, over-last, take-over, length-over, write-fits, write-short, wrote-end, wrote-short}
 use Rattle.base.specs.declared.decimal.Put.{Put}
@@ -28,7 +29,7 @@ put-turn at j bs t p h r =
 -- no byte is left to be written
 pub put-end : (at : ℕ) (bs t : List ℕ) → over at (take 0 bs) t ≡ t
 unfolding over
-put-end at bs t = let e : at + 0 ≡ at = omega arith in rw (e, take-append-drop)
+put-end at bs t = put-none at t
 
 -- what a write adds
 pub added-wrote : (t : List ℕ) (at : ℕ) (bs u : List ℕ) (r : Put) → _≡_ {A = Wrote} (record { answer = r; text = u }) (write t at bs) → Added t at bs u r
@@ -92,7 +93,8 @@ listed t u v bs e p l z =
     let n = length-replicate {A = ℕ} (length t) 0 in
     let k : length t ≡ e + (length u - e) = omega arith in
     let d = ap (λ (m : ℕ). replicate {A = ℕ} m 0) k ∙ sym (replicate-append-replicate {A = ℕ} e (length u - e) 0) in
-    let q : zeroed e u ≡ over 0 bs (replicate (length t) 0) = rw (p .2, ← p .0, d, drop-at (replicate {A = ℕ} e 0) (replicate (length u - e) 0) e (length-replicate {A = ℕ} e 0)) in
+    let m : length bs ≡ e = omega (arith, p .0) in
+    let q : zeroed e u ≡ over 0 bs (replicate (length t) 0) = rw (p .2, m, d, drop-at (replicate {A = ℕ} e 0) (replicate (length u - e) 0) e (length-replicate {A = ℕ} e 0)) in
     write-fits (replicate (length t) 0) 0 bs e v (p .0) (omega arith) (z ∙ q)
 
 -- where there was no room, zeros alone are
