@@ -41,9 +41,9 @@ fn count(rows: &[Vec<String>], letter: &str, pattern: u64, graph: u64, pack: u64
 
 #[test]
 fn every_call_fits() {
-    let letters = ["A", "Y", "R", "N", "S", "O", "T", "P", "G", "–"];
+    let letters = ["A", "K", "Y", "R", "N", "S", "O", "T", "P", "G", "–"];
     let (table, regions) = (rows("## Counts"), rows("## Regions"));
-    assert!(regions.len() > 60, "rows are missing");
+    assert!(regions.len() > 55, "rows are missing");
     let lengths = [
         0,
         1,

@@ -1,0 +1,5 @@
+-- What the tables of records hold, and their laws.
+pub mod Place
+pub mod Region
+pub mod Laws
+pub mod Whole
