@@ -15,3 +15,6 @@ pub mod Put
 pub mod Body
 pub mod Encode
 pub mod Prefix
+pub mod Decide
+pub mod DecideTheory
+pub mod DecideCertificate

@@ -1,0 +1,24 @@
+// Goals and results: what each says in the parsed pack.
+use crate::body::body_word;
+use catalog::whole::Catalog;
+ghost use Prim.Native.Nat.{_<_};
+ghost use lib.ListN.{length, getD};
+ghost use Rattle.definition.specs.Verdict.{noGoal, noResult};
+ghost use Rattle.catalog.specs.Whole.{recordsOf};
+ghost use Rattle.pack.specs.Says.{Readable, OfPack};
+
+// The judgment of goal `i`, a node.
+pub fn goal_judgment(pack: &[u8], work: &[u32], c: Catalog, i: usize) -> u32
+    requires { ⌜ Readable (now pack) (now work) c × (i < length (recordsOf (now work) c 5)) ⌝ }
+    ensures { λ r. ⌜ OfPack (now (pack .entry)) (now (work .entry)) c (λ P. getD (P .goals) i noGoal .judgment) r ⌝ }
+{
+    body_word(pack, work, c, 5, i, 0)
+}
+
+// The step of result `i`.
+pub fn result_step(pack: &[u8], work: &[u32], c: Catalog, i: usize) -> u32
+    requires { ⌜ Readable (now pack) (now work) c × (i < length (recordsOf (now work) c 6)) ⌝ }
+    ensures { λ r. ⌜ OfPack (now (pack .entry)) (now (work .entry)) c (λ P. getD (P .results) i noResult .step) r ⌝ }
+{
+    body_word(pack, work, c, 6, i, 0)
+}

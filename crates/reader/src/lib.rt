@@ -1,0 +1,8 @@
+// The pack's records taken up one by one.
+pub mod goal;
+pub mod node;
+pub mod result;
+pub mod sort;
+pub mod step;
+pub mod symbol;
+pub mod taken;
