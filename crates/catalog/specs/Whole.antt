@@ -2,14 +2,14 @@
 use mathlib.Core.Path.{_≡_, refl, sym, ap, _∙_, subst}
 use mathlib.Core.Bool.{Bool, true, false, not}
 use mathlib.Core.List.{List, [], _∷_, _++_}
-use Prim.Native.Nat.{ℕ, zero, suc, _+_, _-_, _*_, _≤_, _<_}
+use Prim.Native.Nat.{ℕ, suc, _+_, _-_, _*_, _≤_, _<_}
 use native.Mathlib.Nat.{mul-le-mul-right}
 use native.Mathlib.Omega.{arith}
 use native.Mathlib.Decide.{ℕ-discrete, decLt}
 use lib.Dec.{eqb}
-use lib.ListN.{length, getD, take, drop}
+use lib.ListN.{length, getD, set, take, drop, length-set}
 use Rattle.definition.specs.Test.{_and_, never}
-use Rattle.base.specs.Part.{part, put, part-at, part-lent, put-lent, put-part, length-part, part-put, part-put-before, part-put-behind, length-put}
+use Rattle.base.specs.Part.{part, put, part-at, part-set-behind, part-lent, put-lent, put-part, length-part, part-put, put-before, put-behind, part-put-before, part-put-behind, length-put}
 use Rattle.catalog.specs.Place.{Place, noPlace, keyAt, Framed}
 use Rattle.catalog.specs.Region.{sizeFor, countIn, placeIn, places, Kept, Keyed, Finds, Enters, Entering, Emptied}
 use Rattle.catalog.specs.Laws.{length-places, places-at}
@@ -50,10 +50,17 @@ pub record Cataloged (bytes work : List ℕ) (c : Catalog) : Type 0 where
 abbrev pub OthersKept : List ℕ → List ℕ → Catalog → ℕ → Type 0
 OthersKept work work′ c k = (j : ℕ) → j < 8 → (j ≡ k → ⊥) → recordsOf work′ c j ≡ recordsOf work c j
 
+-- what stands before the regions and behind them is as it was
+pub record Outside (work work′ : List ℕ) (c : Catalog) : Type 0 where
+  pub long : length work′ ≡ length work
+  pub ahead : (i : ℕ) → i < c .at → getD work′ i 0 ≡ getD work i 0
+  pub beyond : (i : ℕ) → c .at + 8 * sizeFor (c .cap) ≤ i → getD work′ i 0 ≡ getD work i 0
+
 -- one record more of a kind
 pub record More (bytes work work′ : List ℕ) (c : Catalog) (k : ℕ) (p : Place) : Type 0 where
   pub more : recordsOf work′ c k ≡ recordsOf work c k ++ (p ∷ [])
   pub others : OthersKept work work′ c k
+  pub outside : Outside work work′ c
   pub cataloged : Cataloged bytes work′ c
 
 abbrev pub FindsIn : List ℕ → List Place → List ℕ → Type 0
@@ -124,7 +131,16 @@ module _ (bytes work : List ℕ) (c : Catalog) (C : Cataloged bytes work c) (k :
 
   pub put-more : (p : Place) → places r ≡ recordsOf work c k ++ (p ∷ []) → Kept bytes r (c .cap) → (keyedKind k ≡ true → Keyed bytes r (c .cap)) → More bytes work work′ c k p
   unfolding recordsOf
-  put-more p e K T = record { more = ap places region-same ∙ e; others = others-kept; cataloged = put-cataloged K T }
+  put-more p e K T = record {
+    more = ap places region-same ∙ e;
+    others = others-kept;
+    outside = record {
+      long = long-work;
+      ahead = λ i l. put-before (startOf c k) n work inside r long i (omega arith);
+      beyond = λ i l. put-behind (startOf c k) n work inside r long i (omega (arith, region-inside c k h));
+    };
+    cataloged = put-cataloged K T;
+  }
 
 -- a region's length
 pub length-region : (work : List ℕ) (c : Catalog) (k : ℕ) → Fits work c → k < 8 → length (regionOf work c k) ≡ sizeFor (c .cap)
@@ -232,3 +248,20 @@ pub pushed-in : (bytes work : List ℕ) (c : Catalog) (C : Cataloged bytes work 
     → More bytes work (put (startOf c k) (sizeFor (c .cap)) r work) c k p
 unfolding recordsOf
 pushed-in bytes work c C k h r p q e K = put-more bytes work c C k h r (K .long) p e K (λ t. never (let z : true ≡ false = sym t ∙ q in cc))
+
+-- ---- a store behind the regions
+module _ (bytes work : List ℕ) (c : Catalog) (C : Cataloged bytes work c) (i v : ℕ) (h : c .at + 8 * sizeFor (c .cap) ≤ i) where
+  region-set : (k : ℕ) → k < 8 → regionOf (set work i v) c k ≡ regionOf work c k
+  unfolding regionOf
+  region-set k l = part-set-behind (startOf c k) (sizeFor (c .cap)) work i v (omega (arith, region-inside c k l))
+
+  pub records-set : (k : ℕ) → k < 8 → recordsOf (set work i v) c k ≡ recordsOf work c k
+  unfolding recordsOf
+  records-set k l = ap places (region-set k l)
+
+  pub cataloged-set : Cataloged bytes (set work i v) c
+  cataloged-set = record {
+    fits = record { small = C .fits .small; fits = rw (length-set work i v) (C .fits .fits) };
+    kept = λ k l. subst (λ (r : List ℕ). Kept bytes r (c .cap)) (sym (region-set k l)) (C .kept k l);
+    keyed = λ k l e. subst (λ (r : List ℕ). Keyed bytes r (c .cap)) (sym (region-set k l)) (C .keyed k l e);
+  }

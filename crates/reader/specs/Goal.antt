@@ -41,7 +41,7 @@ module _ (bytes work body : List ℕ) (c : Catalog) (at : ℕ) (R : Reading byte
   names P r = listed-names bytes (λ p. goalIn (bodyAt bytes p)) (GoalForm bytes) (λ y. y .name) (P .goals) (rs 5) (λ p F. F .1) (r .goals)
 
   -- the judgment is cut
-  pub short-goal : length body < 4 → Takes bytes work work c (behind at body) (λ P. takeGoal P body) Bad
+  pub short-goal : length body < 4 → Takes bytes work work c 5 (behind at body) (λ P. takeGoal P body) Bad
   short-goal h P r = goal-short P body h
 
   module _ (long : 4 ≤ length body) where
@@ -59,7 +59,7 @@ module _ (bytes work body : List ℕ) (c : Catalog) (at : ℕ) (R : Reading byte
     goal-is = ap goalIn body-is
 
     -- no node
-    pub nodeless-goal : length (rs 3) ≤ le 4 body 0 → Takes bytes work work c (behind at body) (λ P. takeGoal P body) Bad
+    pub nodeless-goal : length (rs 3) ≤ le 4 body 0 → Takes bytes work work c 5 (behind at body) (λ P. takeGoal P body) Bad
     nodeless-goal h P r = goal-node P body long (omega (arith, length-nodes bytes rs P r))
 
     module _ (node : le 4 body 0 < length (rs 3)) where
@@ -67,27 +67,27 @@ module _ (bytes work body : List ℕ) (c : Catalog) (at : ℕ) (R : Reading byte
       noded P r = omega (arith, length-nodes bytes rs P r)
 
       -- a node with no predicate on top
-      pub unjudged-goal : (s : ℕ) → OfPack bytes work c (λ P. sortOf P (le 4 body 0)) s → (s ≡ prop → ⊥) → Takes bytes work work c (behind at body) (λ P. takeGoal P body) Bad
+      pub unjudged-goal : (s : ℕ) → OfPack bytes work c (λ P. sortOf P (le 4 body 0)) s → (s ≡ prop → ⊥) → Takes bytes work work c 5 (behind at body) (λ P. takeGoal P body) Bad
       unjudged-goal s e n P r = goal-judgment P body long (noded P r) (λ q. n (e P r ∙ q))
 
       module _ (s : ℕ) (sort : OfPack bytes work c (λ P. sortOf P (le 4 body 0)) s) (predicate : s ≡ prop) where
         judged : (P : Pack) → Reads bytes rs P → sortOf P (le 4 body 0) ≡ prop
         judged P r = sym (sort P r) ∙ predicate
 
-        pub misnamed-goal : isName (drop 4 body) ≡ false → Takes bytes work work c (behind at body) (λ P. takeGoal P body) Bad
+        pub misnamed-goal : isName (drop 4 body) ≡ false → Takes bytes work work c 5 (behind at body) (λ P. takeGoal P body) Bad
         misnamed-goal e P r = goal-misnamed P body long (noded P r) (judged P r) e
 
         module _ (named : isName (drop 4 body) ≡ true) where
           pub enter-goal : EnteringIn bytes work c 5 place
           enter-goal = may-enter bytes work body c at 5 4 R W (omega arith) long (omega arith)
 
-          pub new-goal : (work′ : List ℕ) → EntersIn bytes work work′ c 5 place New → Takes bytes work work′ c (behind at body) (λ P. takeGoal P body) Good
+          pub new-goal : (work′ : List ℕ) → EntersIn bytes work work′ c 5 place New → Takes bytes work work′ c 5 (behind at body) (λ P. takeGoal P body) Good
           new-goal work′ =
               entered-takes bytes work work′ c at (behind at body) 5 place (λ P. takeGoal P body) (λ P. withGoal P (goalIn (bodyAt bytes place))) R (omega arith)
               (λ P r n. goal-taken P body long (noded P r) (judged P r) named (names-not-there bytes _ (rs 5) (drop 4 body) (names P r) (λ f. n (f .0, f .1, f .2 ∙ sym key-is))) ∙ ap (λ (y : Goal). good (withGoal P y)) (sym goal-is))
               (λ P r M. read-goal bytes rs (recordsOf work′ c) P r place M form)
 
-          pub old-goal : (work′ : List ℕ) → EntersIn bytes work work′ c 5 place Old → Takes bytes work work′ c (behind at body) (λ P. takeGoal P body) Bad
+          pub old-goal : (work′ : List ℕ) → EntersIn bytes work work′ c 5 place Old → Takes bytes work work′ c 5 (behind at body) (λ P. takeGoal P body) Bad
           old-goal work′ =
               refused-takes bytes work work′ c (behind at body) 5 place (λ P. takeGoal P body)
               (λ P r f. goal-again P body long (noded P r) (judged P r) named (names-there bytes _ (rs 5) (drop 4 body) (names P r) (f .0, f .1, f .2 ∙ key-is)))

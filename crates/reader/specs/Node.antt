@@ -121,11 +121,11 @@ module _ (bytes work body : List ℕ) (c : Catalog) (at : ℕ) (R : Reading byte
   body-is : bodyAt bytes place ≡ body
   body-is = body-at bytes body at (at + 6) W
 
-  pub bad-short : length body < 4 → Takes bytes work work c (behind at body) (λ P. takeNode P body) Bad
+  pub bad-short : length body < 4 → Takes bytes work work c 3 (behind at body) (λ P. takeNode P body) Bad
   bad-short h P r = node-short P body h
 
   module _ (long : 4 ≤ length body) (head : ℕ) (head-is : head ≡ le 4 body 0) where
-    pub bad-head : length (rs 1) ≤ head → Takes bytes work work c (behind at body) (λ P. takeNode P body) Bad
+    pub bad-head : length (rs 1) ≤ head → Takes bytes work work c 3 (behind at body) (λ P. takeNode P body) Bad
     bad-head h P r = node-head P body long (omega (arith, length-symbols bytes rs P r))
 
     module _ (symbol : head < length (rs 1)) (arity : ℕ) (many : OfPack bytes work c (λ P. length (symbolOf P head .inputs)) arity) where
@@ -140,7 +140,7 @@ module _ (bytes work body : List ℕ) (c : Catalog) (at : ℕ) (R : Reading byte
       few-inputs =
           omega (arith, R .short, many (S .pack) (S .reads), arity-read bytes rs (S .pack) (S .reads) head symbol, S .reads .symbols .form head symbol .0, record-inside bytes work c 1 head (R .cataloged) (omega arith) symbol)
 
-      pub bad-length : (length body ≡ 4 + 4 * arity → ⊥) → Takes bytes work work c (behind at body) (λ P. takeNode P body) Bad
+      pub bad-length : (length body ≡ 4 + 4 * arity → ⊥) → Takes bytes work work c 3 (behind at body) (λ P. takeNode P body) Bad
       bad-length d P r = node-length P body long (headed P r) (λ e. d (e ∙ ap (λ (k : ℕ). 4 + 4 * k) (inputs-are P r)))
 
       module _ (whole : length body ≡ 4 + 4 * arity) where
@@ -157,7 +157,7 @@ module _ (bytes work body : List ℕ) (c : Catalog) (at : ℕ) (R : Reading byte
             ∙ sym (F P r)
 
         -- the answer, which code negates
-        pub bad-arguments : (t : Bool) → Fit bytes work body c head arity t → not t ≡ true → Takes bytes work work c (behind at body) (λ P. takeNode P body) Bad
+        pub bad-arguments : (t : Bool) → Fit bytes work body c head arity t → not t ≡ true → Takes bytes work work c 3 (behind at body) (λ P. takeNode P body) Bad
         bad-arguments t F n P r = node-arguments P body long (headed P r) (whole-at P r) (denied t _ (sym (fit-at t F P r)) n)
 
         module _ (t : Bool) (F : Fit bytes work body c head arity t) (n : not t ≡ false) where
@@ -195,13 +195,13 @@ module _ (bytes work body : List ℕ) (c : Catalog) (at : ℕ) (R : Reading byte
                   ∙ same-bodies (bodyOf bytes (rs 3) i) (bodyAt bytes place) (body-bytes bytes _ (S .octets)) (body-bytes bytes place (S .octets)) (F .2) (form .2) (sym (node-at P r i l) ∙ e ∙ sym (node-is P r))
                   ∙ sym (form .1)
 
-          pub new-node : (work′ : List ℕ) → EntersIn bytes work work′ c 3 place New → Takes bytes work work′ c (behind at body) (λ P. takeNode P body) Good
+          pub new-node : (work′ : List ℕ) → EntersIn bytes work work′ c 3 place New → Takes bytes work work′ c 3 (behind at body) (λ P. takeNode P body) Good
           new-node work′ =
               entered-takes bytes work work′ c at (behind at body) 3 place (λ P. takeNode P body) (λ P. withNode P (nodeIn (bodyAt bytes place))) R (omega (arith, long))
               (λ P r none. node-taken P body long (headed P r) (whole-at P r) (fit P r) (node-not-there P r none) ∙ ap (λ (x : Node). good (withNode P x)) (sym (node-is P r)))
               (λ P r M. read-node bytes rs (recordsOf work′ c) P r place M form)
 
-          pub old-node : (work′ : List ℕ) → EntersIn bytes work work′ c 3 place Old → Takes bytes work work′ c (behind at body) (λ P. takeNode P body) Bad
+          pub old-node : (work′ : List ℕ) → EntersIn bytes work work′ c 3 place Old → Takes bytes work work′ c 3 (behind at body) (λ P. takeNode P body) Bad
           old-node work′ =
               refused-takes bytes work work′ c (behind at body) 3 place (λ P. takeNode P body)
               (λ P r f. node-again P body long (headed P r) (whole-at P r) (fit P r) (node-there P r f))

@@ -33,7 +33,7 @@ module _ (bytes work body : List ℕ) (c : Catalog) (at : ℕ) (R : Reading byte
   names P r = listed-names bytes (λ p. resultIn (bodyAt bytes p)) (GoalForm bytes) (λ y. y .name) (P .results) (rs 6) (λ p F. F .1) (r .results)
 
   -- the step is cut
-  pub short-result : length body < 4 → Takes bytes work work c (behind at body) (λ P. takeResult P body) Bad
+  pub short-result : length body < 4 → Takes bytes work work c 6 (behind at body) (λ P. takeResult P body) Bad
   short-result h P r = result-short P body h
 
   module _ (long : 4 ≤ length body) where
@@ -51,27 +51,27 @@ module _ (bytes work body : List ℕ) (c : Catalog) (at : ℕ) (R : Reading byte
     result-is = ap resultIn body-is
 
     -- no step
-    pub stepless-result : length (rs 4) ≤ le 4 body 0 → Takes bytes work work c (behind at body) (λ P. takeResult P body) Bad
+    pub stepless-result : length (rs 4) ≤ le 4 body 0 → Takes bytes work work c 6 (behind at body) (λ P. takeResult P body) Bad
     stepless-result h P r = result-step P body long (omega (arith, length-steps bytes rs P r))
 
     module _ (step : le 4 body 0 < length (rs 4)) where
       stepped : (P : Pack) → Reads bytes rs P → le 4 body 0 < length (P .steps)
       stepped P r = omega (arith, length-steps bytes rs P r)
 
-      pub misnamed-result : isName (drop 4 body) ≡ false → Takes bytes work work c (behind at body) (λ P. takeResult P body) Bad
+      pub misnamed-result : isName (drop 4 body) ≡ false → Takes bytes work work c 6 (behind at body) (λ P. takeResult P body) Bad
       misnamed-result e P r = result-misnamed P body long (stepped P r) e
 
       module _ (named : isName (drop 4 body) ≡ true) where
         pub enter-result : EnteringIn bytes work c 6 place
         enter-result = may-enter bytes work body c at 6 4 R W (omega arith) long (omega arith)
 
-        pub new-result : (work′ : List ℕ) → EntersIn bytes work work′ c 6 place New → Takes bytes work work′ c (behind at body) (λ P. takeResult P body) Good
+        pub new-result : (work′ : List ℕ) → EntersIn bytes work work′ c 6 place New → Takes bytes work work′ c 6 (behind at body) (λ P. takeResult P body) Good
         new-result work′ =
             entered-takes bytes work work′ c at (behind at body) 6 place (λ P. takeResult P body) (λ P. withResult P (resultIn (bodyAt bytes place))) R (omega arith)
             (λ P r n. result-taken P body long (stepped P r) named (names-not-there bytes _ (rs 6) (drop 4 body) (names P r) (λ f. n (f .0, f .1, f .2 ∙ sym key-is))) ∙ ap (λ (y : Result). good (withResult P y)) (sym result-is))
             (λ P r M. read-result bytes rs (recordsOf work′ c) P r place M form)
 
-        pub old-result : (work′ : List ℕ) → EntersIn bytes work work′ c 6 place Old → Takes bytes work work′ c (behind at body) (λ P. takeResult P body) Bad
+        pub old-result : (work′ : List ℕ) → EntersIn bytes work work′ c 6 place Old → Takes bytes work work′ c 6 (behind at body) (λ P. takeResult P body) Bad
         old-result work′ =
             refused-takes bytes work work′ c (behind at body) 6 place (λ P. takeResult P body)
             (λ P r f. result-again P body long (stepped P r) named (names-there bytes _ (rs 6) (drop 4 body) (names P r) (f .0, f .1, f .2 ∙ key-is)))

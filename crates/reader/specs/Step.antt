@@ -20,7 +20,7 @@ use Rattle.catalog.specs.declared.whole.Catalog.{Catalog}
 use Rattle.pack.specs.Body.{bodyOf, stepIn}
 use Rattle.pack.specs.Reads.{Reads, StepForm, length-nodes, length-steps, read-step}
 use Rattle.pack.specs.Says.{OfPack}
-use Rattle.reader.specs.Taking.{Reading, Whole, behind, Takes, body-at, may-enter, read-on, one-more, denied, not-denied}
+use Rattle.reader.specs.Taking.{Reading, Whole, behind, Takes, body-at, may-enter, pushed-takes, denied, not-denied}
 use Rattle.reader.specs.Sound.{Sound}
 use Rattle.reader.specs.declared.taken.Taken.the-variants.{Good, Bad}
 
@@ -54,18 +54,18 @@ module _ (bytes work body : List ℕ) (c : Catalog) (at : ℕ) (R : Reading byte
   unfolding ruleOf
   premises-are i n h e P r = r .rules .each i h .premises ∙ sym e
 
-  pub bad-short : length body < 8 → Takes bytes work work c (behind at body) (λ P. takeStep P body) Bad
+  pub bad-short : length body < 8 → Takes bytes work work c 4 (behind at body) (λ P. takeStep P body) Bad
   bad-short h P r = step-short P body h
 
   module _ (long : 8 ≤ length body) (rule : ℕ) (rule-is : rule ≡ le 4 body 0) where
-    pub bad-rule : length (rs 2) ≤ rule → Takes bytes work work c (behind at body) (λ P. takeStep P body) Bad
+    pub bad-rule : length (rs 2) ≤ rule → Takes bytes work work c 4 (behind at body) (λ P. takeStep P body) Bad
     bad-rule h P r = step-rule P body long (omega (arith, r .rules .many))
 
     module _ (given : rule < length (rs 2)) (judgment : ℕ) (judgment-is : judgment ≡ le 4 body 4) where
       ruled : (P : Pack) → Reads bytes rs P → le 4 body 0 < length (P .rules)
       ruled P r = omega (arith, r .rules .many)
 
-      pub bad-node : length (rs 3) ≤ judgment → Takes bytes work work c (behind at body) (λ P. takeStep P body) Bad
+      pub bad-node : length (rs 3) ≤ judgment → Takes bytes work work c 4 (behind at body) (λ P. takeStep P body) Bad
       bad-node h P r = step-node P body long (ruled P r) (omega (arith, length-nodes bytes rs P r))
 
       module _ (node : judgment < length (rs 3)) (s : ℕ) (sort : OfPack bytes work c (λ P. sortOf P judgment) s) where
@@ -75,7 +75,7 @@ module _ (bytes work body : List ℕ) (c : Catalog) (at : ℕ) (R : Reading byte
         sort-is : (P : Pack) → Reads bytes rs P → sortOf P (le 4 body 4) ≡ s
         sort-is P r = ap (sortOf P) (sym judgment-is) ∙ sym (sort P r)
 
-        pub bad-judgment : (s ≡ prop → ⊥) → Takes bytes work work c (behind at body) (λ P. takeStep P body) Bad
+        pub bad-judgment : (s ≡ prop → ⊥) → Takes bytes work work c 4 (behind at body) (λ P. takeStep P body) Bad
         bad-judgment d P r = step-judgment P body long (ruled P r) (there P r) (λ e. d (sym (sort-is P r) ∙ e))
 
         module _ (judges : s ≡ prop) (n : ℕ) (premises : n ≡ le 2 (bodyOf bytes (rs 2) rule) 2) where
@@ -85,7 +85,7 @@ module _ (bytes work body : List ℕ) (c : Catalog) (at : ℕ) (R : Reading byte
           count-is : (P : Pack) → Reads bytes rs P → count (ruleOf P (le 4 body 0) .premises) ≡ n
           count-is P r = ap (λ (i : ℕ). count (ruleOf P i .premises)) (sym rule-is) ∙ premises-are rule n given premises P r
 
-          pub bad-length : (length body ≡ 8 + 4 * n → ⊥) → Takes bytes work work c (behind at body) (λ P. takeStep P body) Bad
+          pub bad-length : (length body ≡ 8 + 4 * n → ⊥) → Takes bytes work work c 4 (behind at body) (λ P. takeStep P body) Bad
           bad-length d P r = step-length P body long (ruled P r) (there P r) (judged P r) (λ e. d (e ∙ ap (λ (k : ℕ). 8 + 4 * k) (count-is P r)))
 
           module _ (whole : length body ≡ 8 + 4 * n) (bound : ℕ) (bound-is : bound ≡ length (rs 4)) (t : Bool) (answer : t ≡ all (λ w. ltb w bound) (words n (drop 8 body))) where
@@ -98,7 +98,7 @@ module _ (bytes work body : List ℕ) (c : Catalog) (at : ℕ) (R : Reading byte
                 ∙ ap (λ (k : ℕ). all (isStep P) (words k (drop 8 body))) (sym (count-is P r))
 
             -- the answer, which code negates
-            pub bad-ref : not t ≡ true → Takes bytes work work c (behind at body) (λ P. takeStep P body) Bad
+            pub bad-ref : not t ≡ true → Takes bytes work work c 4 (behind at body) (λ P. takeStep P body) Bad
             bad-ref d P r = step-ref P body long (ruled P r) (there P r) (judged P r) (whole-at P r) (denied t _ (refs-are P r) d)
 
             module _ (refs : not t ≡ false) where
@@ -111,12 +111,8 @@ module _ (bytes work body : List ℕ) (c : Catalog) (at : ℕ) (R : Reading byte
               step-is : (P : Pack) → Reads bytes rs P → stepBy (count (ruleOf P (le 4 body 0) .premises)) body ≡ stepIn (bodyAt bytes place)
               step-is P r = sym (ap stepIn body-is ∙ step-by _ body (whole-at P r))
 
-              pub new-step : (work′ : List ℕ) → More bytes work work′ c 4 place → Takes bytes work work′ c (behind at body) (λ P. takeStep P body) Good
-              new-step work′ M = (
-                read-on bytes work work′ c at (behind at body) 4 place R (omega (arith, long)) M,
-                λ P r. (
-                  withStep P (stepIn (bodyAt bytes place)),
-                  step-taken P body long (ruled P r) (there P r) (judged P r) (whole-at P r) (not-denied t _ (refs-are P r) refs) ∙ ap (λ (x : Step). good (withStep P x)) (step-is P r),
-                  read-step bytes rs (recordsOf work′ c) P r place (one-more bytes work work′ c 4 place M) form,
-                ),
-              )
+              pub new-step : (work′ : List ℕ) → More bytes work work′ c 4 place → Takes bytes work work′ c 4 (behind at body) (λ P. takeStep P body) Good
+              new-step work′ M =
+                  pushed-takes bytes work work′ c at (behind at body) 4 place (λ P. takeStep P body) (λ P. withStep P (stepIn (bodyAt bytes place))) R (omega (arith, long))
+                  (λ P r. step-taken P body long (ruled P r) (there P r) (judged P r) (whole-at P r) (not-denied t _ (refs-are P r) refs) ∙ ap (λ (x : Step). good (withStep P x)) (step-is P r))
+                  (λ P r m. read-step bytes rs (recordsOf work′ c) P r place m form) M

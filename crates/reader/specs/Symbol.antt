@@ -113,7 +113,7 @@ module _ (bytes work body : List ℕ) (c : Catalog) (at : ℕ) (R : Reading byte
   names P r = listed-names bytes (λ p. symbolIn (bodyAt bytes p)) (SymbolForm bytes) (λ y. y .name) (P .symbols) (rs 1) (λ p F. F .1) (r .symbols)
 
   -- no room
-  pub many-symbols : 4096 ≤ length (rs 1) → Takes bytes work work c (behind at body) (λ P. takeSymbol P body) Over
+  pub many-symbols : 4096 ≤ length (rs 1) → Takes bytes work work c 1 (behind at body) (λ P. takeSymbol P body) Over
   many-symbols h P r = symbol-over P body (omega (arith, length-symbols bytes rs P r))
 
   module _ (room : length (rs 1) < 4096) (sorts : ℕ) (counted : sorts ≡ length (rs 0)) where
@@ -123,10 +123,10 @@ module _ (bytes work body : List ℕ) (c : Catalog) (at : ℕ) (R : Reading byte
     many : (P : Pack) → Reads bytes rs P → length (P .sorts) ≡ sorts
     many P r = length-sorts bytes rs P r ∙ sym counted
 
-    pub wrong-symbol : Shapes body sorts Wrong → Takes bytes work work c (behind at body) (λ P. takeSymbol P body) Bad
+    pub wrong-symbol : Shapes body sorts Wrong → Takes bytes work work c 1 (behind at body) (λ P. takeSymbol P body) Bad
     wrong-symbol S P r = S P (many P r) (few P r)
 
-    pub over-symbol : Shapes body sorts Wide → Takes bytes work work c (behind at body) (λ P. takeSymbol P body) Over
+    pub over-symbol : Shapes body sorts Wide → Takes bytes work work c 1 (behind at body) (λ P. takeSymbol P body) Over
     over-symbol S P r = S P (many P r) (few P r)
 
     module _ (n : ℕ) (F : Formed body sorts n) where
@@ -156,13 +156,13 @@ module _ (bytes work body : List ℕ) (c : Catalog) (at : ℕ) (R : Reading byte
       pub enter-symbol : EnteringIn bytes work c 1 place
       enter-symbol = may-enter bytes work body c at 1 n R W (omega (arith, F .long)) (omega (arith, F .start, F .whole)) (omega arith)
 
-      pub new-symbol : (work′ : List ℕ) → EntersIn bytes work work′ c 1 place New → Takes bytes work work′ c (behind at body) (λ P. takeSymbol P body) Good
+      pub new-symbol : (work′ : List ℕ) → EntersIn bytes work work′ c 1 place New → Takes bytes work work′ c 1 (behind at body) (λ P. takeSymbol P body) Good
       new-symbol work′ =
           entered-takes bytes work work′ c at (behind at body) 1 place (λ P. takeSymbol P body) (λ P. withSymbol P (symbolIn (bodyAt bytes place))) R (omega (arith, F .long))
           (λ P r n. symbol-taken P body (few P r) (F .long) (F .narrow) (F .whole) (F .output P (many P r)) (F .inputs P (many P r)) (F .named) (names-not-there bytes _ (rs 1) name (names P r) (λ f. n (f .0, f .1, f .2 ∙ sym key-is))) ∙ ap (λ (y : Symbol). good (withSymbol P y)) (sym symbol-is))
           (λ P r M. read-symbol bytes rs (recordsOf work′ c) P r place M form)
 
-      pub old-symbol : (work′ : List ℕ) → EntersIn bytes work work′ c 1 place Old → Takes bytes work work′ c (behind at body) (λ P. takeSymbol P body) Bad
+      pub old-symbol : (work′ : List ℕ) → EntersIn bytes work work′ c 1 place Old → Takes bytes work work′ c 1 (behind at body) (λ P. takeSymbol P body) Bad
       old-symbol work′ =
           refused-takes bytes work work′ c (behind at body) 1 place (λ P. takeSymbol P body)
           (λ P r f. symbol-again P body (few P r) (F .long) (F .narrow) (F .whole) (F .output P (many P r)) (F .inputs P (many P r)) (F .named) (names-there bytes _ (rs 1) name (names P r) (f .0, f .1, f .2 ∙ key-is)))

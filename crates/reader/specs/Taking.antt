@@ -14,7 +14,7 @@ use Rattle.definition.specs.Pack.{Pack}
 use Rattle.definition.specs.Laws.Decide.{names-any, names-none}
 use Rattle.definition.specs.Frame.{Checked, good, bad, over}
 use Rattle.catalog.specs.Place.{Place, noPlace, endOf, keyAt, bodyAt}
-use Rattle.catalog.specs.Whole.{recordsOf, keyedKind, Cataloged, More, EnteringIn, EntersIn, FindsIn}
+use Rattle.catalog.specs.Whole.{recordsOf, keyedKind, Cataloged, Outside, More, EnteringIn, EntersIn, FindsIn}
 use Rattle.catalog.specs.declared.region.Entered.the-variants.{New, Old}
 use Rattle.catalog.specs.declared.whole.Catalog.{Catalog}
 use Rattle.pack.specs.Reads.{Reads, OneMore}
@@ -56,12 +56,19 @@ key-at bytes body at k W h =
         let e : at + 6 + k + i ≡ at + 6 + (k + i) = omega arith in
         ap (λ (j : ℕ). getD bytes j 0) e ∙ sym (part-at (at + 6) (length body) bytes (k + i) l) ∙ ap (λ (b : List ℕ). getD b (k + i) 0) (sym (W .body-is)) ∙ sym (getD-drop k body i 0)
 
--- what taking up a record answers, if `take` is the definition's test of it
-abbrev pub Takes : List ℕ → List ℕ → List ℕ → Catalog → ℕ → (Pack → Checked Pack) → Taken → Type 0
-Takes bytes work work′ c end take Good =
-    Reading bytes work′ c end × ((P : Pack) → Reads bytes (recordsOf work c) P → (Q : Pack) × (take P ≡ good Q) × Reads bytes (recordsOf work′ c) Q)
-Takes bytes work work′ c end take Bad = (P : Pack) → Reads bytes (recordsOf work c) P → take P ≡ bad
-Takes bytes work work′ c end take Over = (P : Pack) → Reads bytes (recordsOf work c) P → take P ≡ over
+-- a record of kind k was taken up: it is behind the others of its kind, nothing else has changed, and the reader is ahead of the next one
+pub record TakenUp (bytes work work′ : List ℕ) (c : Catalog) (k end : ℕ) (take : Pack → Checked Pack) : Type 0 where
+  pub reading : Reading bytes work′ c end
+  pub outside : Outside work work′ c
+  pub place : Place
+  pub more : OneMore (recordsOf work c) (recordsOf work′ c) k place
+  pub says : (P : Pack) → Reads bytes (recordsOf work c) P → (Q : Pack) × (take P ≡ good Q) × Reads bytes (recordsOf work′ c) Q
+
+-- what taking up a record of kind k answers, if `take` is the definition's test of it
+abbrev pub Takes : List ℕ → List ℕ → List ℕ → Catalog → ℕ → ℕ → (Pack → Checked Pack) → Taken → Type 0
+Takes bytes work work′ c k end take Good = TakenUp bytes work work′ c k end take
+Takes bytes work work′ c k end take Bad = (P : Pack) → Reads bytes (recordsOf work c) P → take P ≡ bad
+Takes bytes work work′ c k end take Over = (P : Pack) → Reads bytes (recordsOf work c) P → take P ≡ over
 
 -- a record with at least a byte of body can be entered
 pub may-enter : (bytes work body : List ℕ) (c : Catalog) (at k n : ℕ) → Reading bytes work c at → Whole bytes body at → 0 < length body → n ≤ length body → k < 8 → EnteringIn bytes work c k (record { at = at; from = at + 6 + n })
@@ -94,17 +101,26 @@ read-on bytes work work′ c at end k p R some M = record {
 pub one-more : (bytes work work′ : List ℕ) (c : Catalog) (k : ℕ) (p : Place) → More bytes work work′ c k p → OneMore (recordsOf work c) (recordsOf work′ c) k p
 one-more bytes work work′ c k p M = record { more = M .more; same = M .others }
 
+-- a record that was put behind the others of its kind
+pub pushed-takes : (bytes work work′ : List ℕ) (c : Catalog) (at end k : ℕ) (p : Place) (take : Pack → Checked Pack) (make : Pack → Pack) → Reading bytes work c at → at + 7 ≤ end
+    → ((P : Pack) → Reads bytes (recordsOf work c) P → take P ≡ good (make P))
+    → ((P : Pack) → Reads bytes (recordsOf work c) P → OneMore (recordsOf work c) (recordsOf work′ c) k p → Reads bytes (recordsOf work′ c) (make P))
+    → More bytes work work′ c k p → Takes bytes work work′ c k end take Good
+pushed-takes bytes work work′ c at end k p take make R some goes reads M =
+    let m = one-more bytes work work′ c k p M in
+    record { reading = read-on bytes work work′ c at end k p R some M; outside = M .outside; place = p; more = m; says = λ P r. (make P, goes P r, reads P r m) }
+
 -- what `enter` answers decides: a new key is good, an old one bad
 pub entered-takes : (bytes work work′ : List ℕ) (c : Catalog) (at end k : ℕ) (p : Place) (take : Pack → Checked Pack) (make : Pack → Pack) → Reading bytes work c at → at + 7 ≤ end
     → ((P : Pack) → Reads bytes (recordsOf work c) P → (FindsIn bytes (recordsOf work c k) (keyAt bytes p) → ⊥) → take P ≡ good (make P))
     → ((P : Pack) → Reads bytes (recordsOf work c) P → OneMore (recordsOf work c) (recordsOf work′ c) k p → Reads bytes (recordsOf work′ c) (make P))
-    → EntersIn bytes work work′ c k p New → Takes bytes work work′ c end take Good
+    → EntersIn bytes work work′ c k p New → Takes bytes work work′ c k end take Good
 entered-takes bytes work work′ c at end k p take make R some goes reads E =
-    (read-on bytes work work′ c at end k p R some (E .1), λ P r. (make P, goes P r (E .0), reads P r (one-more bytes work work′ c k p (E .1))))
+    pushed-takes bytes work work′ c at end k p take make R some (λ P r. goes P r (E .0)) reads (E .1)
 
 pub refused-takes : (bytes work work′ : List ℕ) (c : Catalog) (end k : ℕ) (p : Place) (take : Pack → Checked Pack)
     → ((P : Pack) → Reads bytes (recordsOf work c) P → FindsIn bytes (recordsOf work c k) (keyAt bytes p) → take P ≡ bad)
-    → EntersIn bytes work work′ c k p Old → Takes bytes work work′ c end take Bad
+    → EntersIn bytes work work′ c k p Old → Takes bytes work work′ c k end take Bad
 refused-takes bytes work work′ c end k p take stops E P r = stops P r (E .0)
 
 -- ---- a key that is there, or is not, among names that are the places' keys

@@ -12,7 +12,7 @@ ghost use Rattle.reader.specs.Sound.{Sound};
 // A goal: a node with a predicate on top, and a name.
 pub fn take_goal(pack: &[u8], body: &[u8], work: &mut [u32], c: Catalog, at: usize) -> Taken
     requires { ⌜ Reading (now pack) (now work) c at × Whole (now pack) (now body) at × Sound (now pack) (now work) c ⌝ }
-    ensures { λ r. ⌜ Takes (now (pack .entry)) (now (work .entry)) (now (work .exit)) c (behind at (now (body .entry))) (λ P. takeGoal P (now (body .entry))) r ⌝ }
+    ensures { λ r. ⌜ Takes (now (pack .entry)) (now (work .entry)) (now (work .exit)) c 5 (behind at (now (body .entry))) (λ P. takeGoal P (now (body .entry))) r ⌝ }
 {
     if body.len() < 4 {
         return Taken::Bad;

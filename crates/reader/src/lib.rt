@@ -1,4 +1,5 @@
 // The pack's records taken up one by one.
+pub mod abstracted;
 pub mod goal;
 pub mod node;
 pub mod result;
@@ -6,3 +7,4 @@ pub mod sort;
 pub mod step;
 pub mod symbol;
 pub mod taken;
+pub mod terms;

@@ -42,7 +42,7 @@ fn arguments_fit(
 // A node: its head, a symbol, and its arguments. Its body is its key.
 pub fn take_node(pack: &[u8], body: &[u8], work: &mut [u32], c: Catalog, at: usize) -> Taken
     requires { ⌜ Reading (now pack) (now work) c at × Whole (now pack) (now body) at × Sound (now pack) (now work) c ⌝ }
-    ensures { λ r. ⌜ Takes (now (pack .entry)) (now (work .entry)) (now (work .exit)) c (behind at (now (body .entry))) (λ P. takeNode P (now (body .entry))) r ⌝ }
+    ensures { λ r. ⌜ Takes (now (pack .entry)) (now (work .entry)) (now (work .exit)) c 3 (behind at (now (body .entry))) (λ P. takeNode P (now (body .entry))) r ⌝ }
 {
     if body.len() < 4 {
         return Taken::Bad;

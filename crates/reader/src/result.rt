@@ -10,7 +10,7 @@ ghost use Rattle.reader.specs.Taking.{Reading, Whole, behind, Takes};
 // A result: a step that was given, and a name.
 pub fn take_result(pack: &[u8], body: &[u8], work: &mut [u32], c: Catalog, at: usize) -> Taken
     requires { ⌜ Reading (now pack) (now work) c at × Whole (now pack) (now body) at ⌝ }
-    ensures { λ r. ⌜ Takes (now (pack .entry)) (now (work .entry)) (now (work .exit)) c (behind at (now (body .entry))) (λ P. takeResult P (now (body .entry))) r ⌝ }
+    ensures { λ r. ⌜ Takes (now (pack .entry)) (now (work .entry)) (now (work .exit)) c 6 (behind at (now (body .entry))) (λ P. takeResult P (now (body .entry))) r ⌝ }
 {
     if body.len() < 4 {
         return Taken::Bad;

@@ -9,7 +9,7 @@ ghost use Rattle.reader.specs.Taking.{Reading, Whole, behind, Takes};
 // A sort: its body is its name.
 pub fn take_sort(pack: &[u8], body: &[u8], work: &mut [u32], c: Catalog, at: usize) -> Taken
     requires { ⌜ Reading (now pack) (now work) c at × Whole (now pack) (now body) at ⌝ }
-    ensures { λ r. ⌜ Takes (now (pack .entry)) (now (work .entry)) (now (work .exit)) c (behind at (now (body .entry))) (λ P. takeSort P (now (body .entry))) r ⌝ }
+    ensures { λ r. ⌜ Takes (now (pack .entry)) (now (work .entry)) (now (work .exit)) c 0 (behind at (now (body .entry))) (λ P. takeSort P (now (body .entry))) r ⌝ }
 {
     if 256 <= c.count(work, 0) {
         return Taken::Over;

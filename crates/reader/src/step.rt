@@ -12,7 +12,7 @@ ghost use Rattle.reader.specs.Sound.{Sound};
 // A step: its rule, its judgment, a node, and its refs, each an earlier step, as many as the rule's premises.
 pub fn take_step(pack: &[u8], body: &[u8], work: &mut [u32], c: Catalog, at: usize) -> Taken
     requires { ⌜ Reading (now pack) (now work) c at × Whole (now pack) (now body) at × Sound (now pack) (now work) c ⌝ }
-    ensures { λ r. ⌜ Takes (now (pack .entry)) (now (work .entry)) (now (work .exit)) c (behind at (now (body .entry))) (λ P. takeStep P (now (body .entry))) r ⌝ }
+    ensures { λ r. ⌜ Takes (now (pack .entry)) (now (work .entry)) (now (work .exit)) c 4 (behind at (now (body .entry))) (λ P. takeStep P (now (body .entry))) r ⌝ }
 {
     if body.len() < 8 {
         return Taken::Bad;

@@ -58,7 +58,7 @@ fn symbol_shape(body: &[u8], sorts: usize) -> Shape
 // A symbol: its output sort, its inputs' sorts, and a name.
 pub fn take_symbol(pack: &[u8], body: &[u8], work: &mut [u32], c: Catalog, at: usize) -> Taken
     requires { ⌜ Reading (now pack) (now work) c at × Whole (now pack) (now body) at ⌝ }
-    ensures { λ r. ⌜ Takes (now (pack .entry)) (now (work .entry)) (now (work .exit)) c (behind at (now (body .entry))) (λ P. takeSymbol P (now (body .entry))) r ⌝ }
+    ensures { λ r. ⌜ Takes (now (pack .entry)) (now (work .entry)) (now (work .exit)) c 1 (behind at (now (body .entry))) (λ P. takeSymbol P (now (body .entry))) r ⌝ }
 {
     if 4096 <= c.count(work, 1) {
         return Taken::Over;
