@@ -1,5 +1,5 @@
 -- Names, byte by byte.
-use mathlib.Core.Path.{_≡_, refl}
+use mathlib.Core.Path.{_≡_, refl, sym}
 use mathlib.Core.Bool.{Bool, true, false, not}
 use mathlib.Core.List.{List}
 use Prim.Native.Nat.{ℕ, _+_, _≤_, _<_}
@@ -79,3 +79,12 @@ mark-no s e = rw (eq-eqb (getD s 0 0) 63 e) (and-no (leb 1 (length s) and leb (l
 pub name-is : (s : List ℕ) → 1 ≤ length s → length s ≤ 64 → (getD s 0 0 ≡ 63 → ⊥) → isName s ≡ all nameByte s
 unfolding isName
 name-is s l m e = rw (le-leb 1 (length s) l, le-leb (length s) 64 m, ne-eqb (getD s 0 0) 63 e, _and_) (and-yes (all nameByte s))
+
+-- a test that code negates
+pub denied : (b t : Bool) → b ≡ t → not b ≡ true → t ≡ false
+denied true t e n = never (cc)
+denied false t e n = sym e
+
+pub not-denied : (b t : Bool) → b ≡ t → not b ≡ false → t ≡ true
+not-denied true t e n = sym e
+not-denied false t e n = never (cc)

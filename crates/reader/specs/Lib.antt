@@ -8,9 +8,5 @@ pub mod Node
 pub mod Step
 pub mod Goal
 pub mod Result
-pub mod Terms
-pub mod Reading
-pub mod Turns
-pub mod Run
 pub mod Marks
 pub mod Abstracted

@@ -9,7 +9,8 @@ use lib.Seq.{take-length}
 use Rattle.definition.specs.Theory.{isName}
 use Rattle.catalog.specs.Place.{Place, noPlace, keyAt}
 use Rattle.pack.specs.Reads.{Listed, listed-length}
-use Rattle.reader.specs.Taking.{Names, denied, not-denied}
+use Rattle.frame.specs.Name.{denied, not-denied}
+use Rattle.reader.specs.Taking.{Names}
 
 -- what is lent of a body from its n-th byte on
 rest-is : (body : List ℕ) (n : ℕ) → take (length body - n) (drop n body) ≡ drop n body

@@ -23,7 +23,8 @@ use Rattle.pack.specs.Body.{bodyOf, nodeIn}
 use Rattle.pack.specs.Laws.{word-from, record-inside}
 use Rattle.pack.specs.Reads.{Reads, NodeForm, length-symbols, length-nodes, listed-at, read-node}
 use Rattle.pack.specs.Says.{OfPack, arity-read}
-use Rattle.reader.specs.Taking.{Reading, Whole, behind, Takes, body-at, key-at, may-enter, entered-takes, refused-takes, denied, not-denied}
+use Rattle.frame.specs.Name.{denied, not-denied}
+use Rattle.reader.specs.Taking.{Reading, Whole, behind, Takes, body-at, key-at, may-enter, entered-takes, refused-takes}
 use Rattle.reader.specs.Sound.{Sound, body-bytes}
 use Rattle.reader.specs.declared.taken.Taken.the-variants.{Good, Bad}
 

@@ -20,7 +20,8 @@ use Rattle.catalog.specs.declared.whole.Catalog.{Catalog}
 use Rattle.pack.specs.Body.{bodyOf, stepIn}
 use Rattle.pack.specs.Reads.{Reads, StepForm, length-nodes, length-steps, read-step}
 use Rattle.pack.specs.Says.{OfPack}
-use Rattle.reader.specs.Taking.{Reading, Whole, behind, Takes, body-at, may-enter, pushed-takes, denied, not-denied}
+use Rattle.frame.specs.Name.{denied, not-denied}
+use Rattle.reader.specs.Taking.{Reading, Whole, behind, Takes, body-at, may-enter, pushed-takes}
 use Rattle.reader.specs.Sound.{Sound}
 use Rattle.reader.specs.declared.taken.Taken.the-variants.{Good, Bad}
 

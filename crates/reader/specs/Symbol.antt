@@ -20,7 +20,8 @@ use Rattle.catalog.specs.declared.region.Entered.the-variants.{New, Old}
 use Rattle.catalog.specs.declared.whole.Catalog.{Catalog}
 use Rattle.pack.specs.Body.{symbolIn}
 use Rattle.pack.specs.Reads.{Reads, SymbolForm, length-sorts, length-symbols, read-symbol}
-use Rattle.reader.specs.Taking.{Reading, Whole, behind, Takes, body-at, key-at, may-enter, entered-takes, refused-takes, Names, names-there, names-not-there, denied, not-denied}
+use Rattle.frame.specs.Name.{denied, not-denied}
+use Rattle.reader.specs.Taking.{Reading, Whole, behind, Takes, body-at, key-at, may-enter, entered-takes, refused-takes, Names, names-there, names-not-there}
 use Rattle.reader.specs.Named.{listed-names}
 use Rattle.reader.specs.declared.symbol.Shape.{Shape}
 use Rattle.reader.specs.declared.symbol.Shape.the-variants.{Name, Wrong, Wide}

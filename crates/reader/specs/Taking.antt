@@ -1,6 +1,6 @@
 -- What the reader holds between two records, and what taking one up answers.
 use mathlib.Core.Path.{_≡_, refl, sym, ap, _∙_}
-use mathlib.Core.Bool.{Bool, true, false, not}
+use mathlib.Core.Bool.{true, false}
 use mathlib.Core.List.{List, [], _∷_}
 use Prim.Native.Nat.{ℕ, _+_, _*_, _-_, _/_, _≤_, _<_}
 use native.Mathlib.Omega.{arith}
@@ -9,7 +9,7 @@ use lib.ListN.{length, getD, drop, length-append, length-drop}
 use lib.Seq.{getD-drop}
 use Rattle.definition.specs.Little.{le}
 use Rattle.base.specs.Part.{part, part-at, part-is}
-use Rattle.definition.specs.Test.{_and_, any, same, never}
+use Rattle.definition.specs.Test.{_and_, any, same}
 use Rattle.definition.specs.Pack.{Pack}
 use Rattle.definition.specs.Laws.Decide.{names-any, names-none}
 use Rattle.definition.specs.Frame.{Checked, good, bad, over}
@@ -133,15 +133,6 @@ names-there bytes names ps key N F = names-any key names (F .0) (omega (arith, N
 
 pub names-not-there : (bytes : List ℕ) (names : List (List ℕ)) (ps : List Place) (key : List ℕ) → Names bytes names ps → (FindsIn bytes ps key → ⊥) → any (same key) names ≡ false
 names-not-there bytes names ps key N F = names-none key names (λ i h e. let l : i < length ps = omega (arith, N .many) in F (i, l, sym (N .each i l) ∙ e))
-
--- a test that code negates
-pub denied : (b t : Bool) → b ≡ t → not b ≡ true → t ≡ false
-denied true t e n = never (cc)
-denied false t e n = sym e
-
-pub not-denied : (b t : Bool) → b ≡ t → not b ≡ false → t ≡ true
-not-denied true t e n = sym e
-not-denied false t e n = never (cc)
 
 -- the kinds that have keys
 pub sorts-keyed : keyedKind 0 ≡ true

@@ -7,4 +7,3 @@ pub mod sort;
 pub mod step;
 pub mod symbol;
 pub mod taken;
-pub mod terms;

@@ -1,7 +1,8 @@
 -- `take_sort` meets its contract.
 use borrow.Author.Needs.{needs}
 use native.Mathlib.Omega.{arith}
-use Rattle.reader.specs.Taking.{denied, not-denied, sorts-keyed}
+use Rattle.frame.specs.Name.{denied, not-denied}
+use Rattle.reader.specs.Taking.{sorts-keyed}
 use Rattle.reader.specs.Sort.{many-sorts, bad-sort, enter-sort, new-sort, old-sort}
 use Rattle.reader.proofs.sort.take_sort.Statement.{statement}
 use Rattle.reader.proofs.sort.take_sort.Tie as tie

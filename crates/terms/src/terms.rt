@@ -10,9 +10,9 @@ ghost use Prim.Native.Nat.{_+_, _*_, _<_, _≤_};
 ghost use lib.ListN.{length};
 ghost use Rattle.catalog.specs.Whole.{recordsOf};
 ghost use Rattle.pack.specs.Says.{Readable};
-ghost use Rattle.reader.specs.Reading.{Stacked, Wants, Fitting, Descended};
-ghost use Rattle.reader.specs.Turns.{Reached, Turned};
-ghost use Rattle.reader.specs.Run.{TermsRead};
+ghost use Rattle.terms.specs.Reading.{Stacked, Wants, Fitting, Descended};
+ghost use Rattle.terms.specs.Turns.{Reached, Turned};
+ghost use Rattle.terms.specs.Run.{TermsRead};
 
 // How far the reading is: the next word's place in the body, how many words were read, how many frames there are, and how many
 // judgments are still to be read.

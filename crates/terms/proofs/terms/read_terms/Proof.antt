@@ -4,10 +4,10 @@ use mathlib.Core.Path.{refl, sym}
 use Prim.Native.Nat.{_-_}
 use native.Mathlib.Omega.{arith}
 use Rattle.catalog.specs.Whole.{recordsOf}
-use Rattle.reader.specs.Turns.{Onward}
-use Rattle.reader.specs.Run.{Running, run-starts, run-on, run-ends, run-bad, run-over}
-use Rattle.reader.proofs.terms.read_terms.Statement.{statement}
-use Rattle.reader.proofs.terms.read_terms.Tie as tie
+use Rattle.terms.specs.Turns.{Onward}
+use Rattle.terms.specs.Run.{Running, run-starts, run-on, run-ends, run-bad, run-over}
+use Rattle.terms.proofs.terms.read_terms.Statement.{statement}
+use Rattle.terms.proofs.terms.read_terms.Tie as tie
 
 abbrev Inv-loop : tie.InvT-loop
 Inv-loop pack work c body vars premises frames₀ p₀ frames p = Running pack (recordsOf work c) body vars premises frames p

@@ -11,12 +11,12 @@ use Rattle.definition.specs.Theory.{Unread, words}
 use Rattle.definition.specs.Laws.Prefix.{readAll}
 use Rattle.catalog.specs.Place.{Place}
 use Rattle.pack.specs.Reads.{Reads}
-use Rattle.reader.specs.Terms.{wantedBy, unreadAt}
-use Rattle.reader.specs.Turns.{Reached, runFrom, Onward, Turned}
-use Rattle.reader.specs.declared.terms.Point.{Point}
-use Rattle.reader.specs.declared.terms.Turn.the-variants as turn
-use Rattle.reader.specs.declared.terms.Terms.{Terms}
-use Rattle.reader.specs.declared.terms.Terms.the-variants.{End, Bad, Over}
+use Rattle.terms.specs.Terms.{wantedBy, unreadAt}
+use Rattle.terms.specs.Turns.{Reached, runFrom, Onward, Turned}
+use Rattle.terms.specs.declared.terms.Point.{Point}
+use Rattle.terms.specs.declared.terms.Turn.the-variants as turn
+use Rattle.terms.specs.declared.terms.Terms.{Terms}
+use Rattle.terms.specs.declared.terms.Terms.the-variants.{End, Bad, Over}
 
 -- the premises and the conclusion, by the definition's loop
 abbrev pub runTerms : Pack → List ℕ → ℕ → ℕ → Checked Unread

@@ -4,9 +4,9 @@ use mathlib.Core.Path.{refl}
 use Prim.Native.Nat.{_*_}
 use native.Mathlib.Omega.{arith}
 use lib.ListN.{length-set}
-use Rattle.reader.specs.Reading.{variable-more, constant-more, arguments-more}
-use Rattle.reader.proofs.terms.descend.Statement.{statement}
-use Rattle.reader.proofs.terms.descend.Tie as tie
+use Rattle.terms.specs.Reading.{variable-more, constant-more, arguments-more}
+use Rattle.terms.proofs.terms.descend.Statement.{statement}
+use Rattle.terms.proofs.terms.descend.Tie as tie
 
 returns : tie.Need-returns
 returns c = let s = c .before .before .before .before in variable-more _ _ _ (s .args .p) (s .args .w) (s .pre .1) (c .if1 .taken)

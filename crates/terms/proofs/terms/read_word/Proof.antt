@@ -3,10 +3,10 @@ use borrow.Author.Needs.{needs}
 use mathlib.Core.Path.{refl}
 use native.Mathlib.Omega.{arith}
 use Rattle.catalog.specs.Whole.{recordsOf}
-use Rattle.reader.specs.Reading.{Wanted}
-use Rattle.reader.specs.Turns.{turn-end, turn-none, turn-many, turn-unfit, symbol-given, turn-on}
-use Rattle.reader.proofs.terms.read_word.Statement.{statement}
-use Rattle.reader.proofs.terms.read_word.Tie as tie
+use Rattle.terms.specs.Reading.{Wanted}
+use Rattle.terms.specs.Turns.{turn-end, turn-none, turn-many, turn-unfit, symbol-given, turn-on}
+use Rattle.terms.proofs.terms.read_word.Statement.{statement}
+use Rattle.terms.proofs.terms.read_word.Tie as tie
 
 -- in the arm of a sort
 arm : (c : tie.After-known-told) → let a = c .before .before .before .before .before .before .before .before .before .before .before .args in

@@ -20,10 +20,10 @@ use Rattle.pack.specs.Body.{bodyOf}
 use Rattle.pack.specs.Laws.{word-from}
 use Rattle.pack.specs.Reads.{Reads, length-symbols}
 use Rattle.pack.specs.Says.{arity-read}
-use Rattle.reader.specs.Terms.{symbolIn, nextIn, wantedBy, wanted-judgment, wanted-none, wanted-argument, frame-done, frame-on, frame-more, fits-variable, fits-symbol, wanted-variable, wanted-symbol}
-use Rattle.reader.specs.declared.terms.Point.{Point}
-use Rattle.reader.specs.declared.terms.Want.{Want}
-use Rattle.reader.specs.declared.terms.Want.the-variants.{Sort, Done}
+use Rattle.terms.specs.Terms.{symbolIn, nextIn, wantedBy, wanted-judgment, wanted-none, wanted-argument, frame-done, frame-on, frame-more, fits-variable, fits-symbol, wanted-variable, wanted-symbol}
+use Rattle.terms.specs.declared.terms.Point.{Point}
+use Rattle.terms.specs.declared.terms.Want.{Want}
+use Rattle.terms.specs.declared.terms.Want.the-variants.{Sort, Done}
 
 -- each of n frames is a symbol with an argument to come
 pub record Stacked (bytes : List ℕ) (rs : ℕ → List Place) (fs : List ℕ) (n : ℕ) : Type 0 where

@@ -15,13 +15,13 @@ use Rattle.definition.specs.Theory.{Unread, words, variable, fits, wanted}
 use Rattle.definition.specs.Laws.Prefix.{readAll, read-done}
 use Rattle.catalog.specs.Place.{Place}
 use Rattle.pack.specs.Reads.{Reads, length-symbols}
-use Rattle.reader.specs.Taking.{denied, not-denied}
-use Rattle.reader.specs.Terms.{wantedBy, unreadAt, word-none, word-many, word-unfit, word-fits, fits-symbol}
-use Rattle.reader.specs.Reading.{Stacked, Wanted, Wants, Fitting, Descended}
-use Rattle.reader.specs.declared.terms.Point.{Point}
-use Rattle.reader.specs.declared.terms.Want.the-variants.{Done}
-use Rattle.reader.specs.declared.terms.Turn.{Turn}
-use Rattle.reader.specs.declared.terms.Turn.the-variants.{Next, End, Bad, Over}
+use Rattle.frame.specs.Name.{denied, not-denied}
+use Rattle.terms.specs.Terms.{wantedBy, unreadAt, word-none, word-many, word-unfit, word-fits, fits-symbol}
+use Rattle.terms.specs.Reading.{Stacked, Wanted, Wants, Fitting, Descended}
+use Rattle.terms.specs.declared.terms.Point.{Point}
+use Rattle.terms.specs.declared.terms.Want.the-variants.{Done}
+use Rattle.terms.specs.declared.terms.Turn.{Turn}
+use Rattle.terms.specs.declared.terms.Turn.the-variants.{Next, End, Bad, Over}
 
 -- a point that the reading reaches: each frame is of a word that was read
 pub record Reached (bytes : List ℕ) (rs : ℕ → List Place) (body : List ℕ) (vars : ℕ) (fs : List ℕ) (p : Point) : Type 0 where

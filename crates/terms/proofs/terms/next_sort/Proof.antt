@@ -4,9 +4,9 @@ use mathlib.Core.Path.{_≡_, refl}
 use Prim.Native.Nat.{ℕ, _+_, _*_, _-_}
 use native.Mathlib.Omega.{arith}
 use Rattle.pack.specs.Says.{arity-read}
-use Rattle.reader.specs.Reading.{no-more, a-judgment, last-argument, an-argument}
-use Rattle.reader.proofs.terms.next_sort.Statement.{statement}
-use Rattle.reader.proofs.terms.next_sort.Tie as tie
+use Rattle.terms.specs.Reading.{no-more, a-judgment, last-argument, an-argument}
+use Rattle.terms.proofs.terms.next_sort.Statement.{statement}
+use Rattle.terms.proofs.terms.next_sort.Tie as tie
 
 returns : tie.Need-returns
 returns c = no-more _ _ _ (c .before .before .before .before .before .args .p) (c .before .before .before .before .before .pre .1) (c .before .if1 .taken) (c .if2 .taken)

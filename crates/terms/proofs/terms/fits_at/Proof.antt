@@ -1,9 +1,9 @@
 -- `fits_at` meets its contract.
 use borrow.Author.Needs.{needs}
 use native.Mathlib.Omega.{arith}
-use Rattle.reader.specs.Reading.{no-variable, a-variable, no-symbol, a-symbol}
-use Rattle.reader.proofs.terms.fits_at.Statement.{statement}
-use Rattle.reader.proofs.terms.fits_at.Tie as tie
+use Rattle.terms.specs.Reading.{no-variable, a-variable, no-symbol, a-symbol}
+use Rattle.terms.proofs.terms.fits_at.Statement.{statement}
+use Rattle.terms.proofs.terms.fits_at.Tie as tie
 
 returns : tie.Need-returns
 returns c = let a = c .before .before .before .before .before .args in no-variable _ _ (a .body .now) (a .vars) (a .s) (a .w) (c .before .if1 .taken) (c .if2 .taken)

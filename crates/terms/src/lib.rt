@@ -1,0 +1,2 @@
+// A rule's terms, read in place.
+pub mod terms;
