@@ -18,3 +18,4 @@ pub mod Prefix
 pub mod Decide
 pub mod DecideTheory
 pub mod DecideCertificate
+pub mod DecideRule

@@ -4,6 +4,7 @@ pub mod Sound
 pub mod Named
 pub mod Sort
 pub mod Symbol
+pub mod Rule
 pub mod Node
 pub mod Step
 pub mod Goal

@@ -3,6 +3,7 @@ pub mod abstracted;
 pub mod goal;
 pub mod node;
 pub mod result;
+pub mod rule;
 pub mod sort;
 pub mod step;
 pub mod symbol;

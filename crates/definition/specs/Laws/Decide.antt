@@ -1,4 +1,4 @@
--- What each test of a record decides, in the order in which code makes them. Here the tests themselves; the kinds are in DecideTheory and DecideCertificate.
+-- What each test of a record decides, in the order in which code makes them. Here the tests themselves; the kinds are in DecideTheory, DecideRule and DecideCertificate.
 use mathlib.Core.Path.{_≡_, refl, sym, ap, _∙_}
 use mathlib.Core.Bool.{Bool, true, false, not}
 use mathlib.Core.List.{List, [], _∷_}

@@ -113,7 +113,7 @@ made-sorted P vars s w ts e h = elim (see (leb variable w)) [
 ]
 
 -- what is read in prefix order is well sorted
-prefix-sorted : (d : ℕ) (P : Pack) (vars ss : List ℕ) (u : Unread) (p : Prefix) → prefix d P vars ss u ≡ good p → SortedAll P vars (p .terms) ss
+pub prefix-sorted : (d : ℕ) (P : Pack) (vars ss : List ℕ) (u : Unread) (p : Prefix) → prefix d P vars ss u ≡ good p → SortedAll P vars (p .terms) ss
 unfolding prefix
 prefix-sorted zero P vars [] u p e = subst (λ (q : Prefix). SortedAll P vars (q .terms) []) (good-eq e) tt
 prefix-sorted zero P vars (s ∷ ss) u p e = let w = bind-good _ _ _ e in never (let q : over ≡ good p = w .2 in cc)
@@ -164,7 +164,7 @@ prefix-words (suc d) P vars (s ∷ ss) u p e h =
     subst (λ (q : Prefix). (q .unread .read ≡ u .read + wordsOfAll (q .terms)) × (q .unread .read ≤ 256)) (good-eq e5) (omega (arith, first .0, rest .0, one), rest .1)
 
 -- terms of n times the mark of a predicate are n judgments
-judgments-read : (P : Pack) (vars : List ℕ) (n : ℕ) (ts : Terms) → SortedAll P vars ts (replicate n prop) → Judgments P vars ts × (count ts ≡ n)
+pub judgments-read : (P : Pack) (vars : List ℕ) (n : ℕ) (ts : Terms) → SortedAll P vars ts (replicate n prop) → Judgments P vars ts × (count ts ≡ n)
 unfolding count
 judgments-read P vars zero nil h = (tt, refl)
 judgments-read P vars zero (cons t ts) h = absurd h
