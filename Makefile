@@ -1,7 +1,7 @@
 # make demo: build what exists and run it on the shipped example.
 # make test: the gate.
 # make vectors: record the vectors anew from the Rust original's source, HORN=FOLDER.
-# make bench: time the library beside the Rust original, HORN=FOLDER.
+# make bench: time the library beside the Rust original, HORN=FOLDER, and its reader.
 HORN ?= ../shared/docs/src
 CARGO = CARGO_TARGET_DIR=$(CURDIR)/target/tools cargo
 TOOLS = target/tools/release
@@ -22,8 +22,10 @@ vectors: oracle
 
 bench: tools
 	@rt staticlib interner > target/interner.log 2>&1 || { cat target/interner.log; exit 1; }
+	@rt staticlib parser > target/parser.log 2>&1 || { cat target/parser.log; exit 1; }
 	@HORN_SRC=$(realpath $(HORN)) RATTLE_LIB=$(CURDIR)/target/staticlib $(CARGO) build --offline --locked --release --quiet --manifest-path tools/Cargo.toml -p bench --features original
 	@$(TOOLS)/bench intern
+	@$(TOOLS)/bench read
 
 demo: tools
 	@rt check records > target/demo.log 2>&1 || { cat target/demo.log; exit 1; }

@@ -1,4 +1,4 @@
-//! Links the library's archive from the folder that RATTLE_LIB names. With the feature
+//! Links the library's archives from the folder that RATTLE_LIB names. With the feature
 //! `original` the original's published files are modules where they stand, in the
 //! folder that HORN_SRC names: nothing is added to them, so they run at their own speed.
 use std::path::{Path, PathBuf};
@@ -29,15 +29,16 @@ fn named(variable: &str, what: &str, files: &[&str]) -> Vec<PathBuf> {
 }
 
 fn main() {
-    for archive in named(
+    let archives = named(
         "RATTLE_LIB",
-        "the library's archive (it has libinterner.a)",
-        &["libinterner.a"],
-    ) {
-        let folder = archive.parent().unwrap_or(Path::new("/"));
+        "the library's archives (it has libinterner.a and libparser.a)",
+        &["libinterner.a", "libparser.a"],
+    );
+    if let Some(folder) = archives.first().and_then(|archive| archive.parent()) {
         println!("cargo::rustc-link-search=native={}", folder.display());
     }
     println!("cargo::rustc-link-lib=static=interner");
+    println!("cargo::rustc-link-lib=static=parser");
 
     if env::var_os("CARGO_FEATURE_ORIGINAL").is_none() {
         return;

@@ -1,13 +1,13 @@
 -- The laws of a region: what a record more leaves as it was, and what a search finds.
 use mathlib.Core.Path.{_≡_, sym, ap, _∙_, subst}
-use mathlib.Core.Bool.{Bool, true, false}
+use mathlib.Core.Bool.{Bool, true, false, not}
 use mathlib.Core.List.{List, [], _∷_, _++_}
 use Prim.Native.Nat.{ℕ, _+_, _-_, _*_, _≤_, _<_}
 use native.Mathlib.Omega.{arith}
 use native.Mathlib.Decide.{ℕ-discrete}
 use lib.ListN.{length, getD, set, replicate, length-set, length-replicate}
 use lib.Seq.{getD-set-same, getD-set-other}
-use Rattle.definition.specs.Test.{same, same-true}
+use Rattle.definition.specs.Test.{same, same-true, never}
 use Rattle.base.specs.Part.{put, part-at, length-part, part-set, part-set-before, part-put, put-before, length-put}
 use Rattle.base.specs.Same.{same-false}
 use Rattle.base.specs.Hash.{hashOf}
@@ -191,24 +191,27 @@ entered bytes r cap p t K E F =
     )
 
 -- ---- a region without records
-pub emptied : (r : List ℕ) (cap : ℕ) → length r ≡ sizeFor cap → cap < 1073741824 → countIn r ≡ 0 → slotsIn r cap ≡ replicate (3 * cap + 1) 0 → Emptied r cap
-unfolding places listed
-emptied r cap l s z e = record {
-  none = ap (listed (placeIn r)) z;
-  keyed = λ bytes. record {
-    kept = record { long = l; few = omega arith; small = s; framed = λ i h. absurd (omega arith) };
-    table = rw (e, z) (table-empty (hashOf (hashesFor cap)) (3 * cap + 1) (λ i. keyAt bytes (placeIn r i)));
-  };
-}
+module _ (r : List ℕ) (cap : ℕ) (long : length r ≡ sizeFor cap) (small : cap < 1073741824) where
+  emptied : (q : List ℕ) (keys : Bool) → length q ≡ length r → countIn q ≡ 0 → (keys ≡ true → slotsIn q cap ≡ replicate (3 * cap + 1) 0) → Emptied q cap keys
+  unfolding places listed
+  emptied q keys l z e = record { none = ap (listed (placeIn q)) z; kept = kept; keyed = λ t bytes. record { kept = kept bytes; table = rw (e t, z) (table-empty (hashOf (hashesFor cap)) (3 * cap + 1) (λ i. keyAt bytes (placeIn q i))) } }
+    where
+      kept : (bytes : List ℕ) → Kept bytes q cap
+      kept bytes = record { long = l ∙ long; few = omega arith; small = small; framed = λ i h. absurd (omega arith) }
 
-pub cleared : (r : List ℕ) (cap : ℕ) → length r ≡ sizeFor cap → cap < 1073741824 → Emptied (put (2 * cap + 1) (3 * cap + 1) (replicate (3 * cap + 1) 0) (set r 0 0)) cap
-unfolding slotsIn
-cleared r cap l s =
-    let q : List ℕ = set r 0 0 in
-    let a : ℕ = 2 * cap + 1 in
-    let k : ℕ = 3 * cap + 1 in
-    let zs : List ℕ = replicate k 0 in
-    let m : length q ≡ length r = length-set r 0 0 in
-    let fits : a + k ≤ length q = omega arith in
-    let long : length zs ≡ k = length-replicate k 0 in
-    emptied (put a k zs q) cap (length-put a k q fits zs long ∙ m ∙ l) s (put-before a k q fits zs long 0 (omega arith) ∙ getD-set-same r 0 0 0 (omega arith)) (part-put a k q fits zs long)
+  -- the count alone
+  pub uncounted : (keys : Bool) → not keys ≡ true → Emptied (set r 0 0) cap keys
+  uncounted keys f = emptied (set r 0 0) keys (length-set r 0 0) (getD-set-same r 0 0 0 (omega arith)) (λ t. never (let z : false ≡ true = sym (ap not t) ∙ f in cc))
+
+  -- and the slots
+  pub cleared : (keys : Bool) → Emptied (put (2 * cap + 1) (3 * cap + 1) (replicate (3 * cap + 1) 0) (set r 0 0)) cap keys
+  unfolding slotsIn
+  cleared keys =
+      let q : List ℕ = set r 0 0 in
+      let a : ℕ = 2 * cap + 1 in
+      let k : ℕ = 3 * cap + 1 in
+      let zs : List ℕ = replicate k 0 in
+      let m : length q ≡ length r = length-set r 0 0 in
+      let fits : a + k ≤ length q = omega arith in
+      let l : length zs ≡ k = length-replicate k 0 in
+      emptied (put a k zs q) keys (length-put a k q fits zs l ∙ m) (put-before a k q fits zs l 0 (omega arith) ∙ getD-set-same r 0 0 0 (omega arith)) (λ t. part-put a k q fits zs l)

@@ -1,5 +1,6 @@
 -- A region of work for the records of one kind: how many there are, where each stands, and a probe table of their keys.
 use mathlib.Core.Path.{_≡_}
+use mathlib.Core.Bool.{Bool, true}
 use mathlib.Core.List.{List, [], _∷_, _++_}
 use Prim.Native.Nat.{ℕ, _+_, _-_, _*_, _≤_, _<_}
 use lib.ListN.{length, getD, set}
@@ -86,7 +87,8 @@ pub record Entering (bytes r : List ℕ) (cap : ℕ) (p : Place) : Type 0 where
   pub room : countIn r < cap
   pub short : length bytes < 4294967296
 
--- a region without records, whatever the pack is
-pub record Emptied (r : List ℕ) (cap : ℕ) : Type 0 where
+-- a region without records, whatever the pack is, and with free slots if its kind has keys
+pub record Emptied (r : List ℕ) (cap : ℕ) (keys : Bool) : Type 0 where
   pub none : places r ≡ []
-  pub keyed : (bytes : List ℕ) → Keyed bytes r cap
+  pub kept : (bytes : List ℕ) → Kept bytes r cap
+  pub keyed : keys ≡ true → (bytes : List ℕ) → Keyed bytes r cap

@@ -1,12 +1,13 @@
 -- The regions of all kinds together.
-use mathlib.Core.Path.{_≡_, refl, sym, ap, _∙_, subst}
+use mathlib.Core.Path.{_≡_, refl, sym, ap, ap₂, _∙_, subst}
 use mathlib.Core.Bool.{Bool, true, false, not}
 use mathlib.Core.List.{List, [], _∷_, _++_}
 use Prim.Native.Nat.{ℕ, suc, _+_, _-_, _*_, _≤_, _<_}
 use native.Mathlib.Nat.{mul-le-mul-right}
 use native.Mathlib.Omega.{arith}
 use native.Mathlib.Decide.{ℕ-discrete, decLt}
-use lib.Dec.{eqb}
+use borrow.Author.Tests.{lt-ltb, le-ltb, ne-eqb}
+use lib.Dec.{eqb, ltb}
 use lib.ListN.{length, getD, set, take, drop, length-set}
 use Rattle.definition.specs.Test.{_and_, never}
 use Rattle.base.specs.Part.{part, put, part-at, part-set-behind, part-lent, put-lent, put-part, length-part, part-put, put-before, put-behind, part-put-before, part-put-behind, length-put}
@@ -19,42 +20,51 @@ use Rattle.catalog.specs.declared.region.Sought.{Sought}
 use Rattle.catalog.specs.declared.region.Sought.the-variants.{At, Nowhere}
 use Rattle.catalog.specs.declared.whole.Catalog.{Catalog}
 
--- where the region of a kind starts, and the region
+-- for how many records of a kind there is room: of sorts, symbols and rules (kinds 0 to 2) a pack has at most 256, 4,096 and 4,096
+unfoldable pub capOf : Catalog → ℕ → ℕ
+capOf c k = elim (ltb k 3) [ true ↦ elim (ltb 4097 (c .cap)) [ true ↦ 4097 | false ↦ c .cap ] | false ↦ c .cap ]
+
+-- where the region of a kind starts, and the region: a prefix of the kind's place, which has room for `c .cap` records
 abbrev pub startOf : Catalog → ℕ → ℕ
 startOf c k = c .at + k * sizeFor (c .cap)
 
 unfoldable pub regionOf : List ℕ → Catalog → ℕ → List ℕ
-regionOf work c k = part (startOf c k) (sizeFor (c .cap)) work
+regionOf work c k = part (startOf c k) (sizeFor (capOf c k)) work
 
 -- the records of a kind
 unfoldable pub recordsOf : List ℕ → Catalog → ℕ → List Place
 unfolding regionOf
 recordsOf work c k = places (regionOf work c k)
 
--- steps and cuts have no keys
+-- steps, cuts and the abstract record have no keys
 abbrev pub keyedKind : ℕ → Bool
-keyedKind k = not (eqb k 4) and not (eqb k 7)
+keyedKind k = not (eqb k 4) and not (eqb k 7) and not (eqb k 8)
 
--- there is room for the regions of eight kinds
+-- where it is neither of two, the third is left to test
+pub keyed-but : (k : ℕ) → (k ≡ 4 → ⊥) → (k ≡ 7 → ⊥) → keyedKind k ≡ not (eqb k 8)
+unfolding _and_
+keyed-but k a b = rw (ne-eqb k 4 a, ne-eqb k 7 b)
+
+-- there is room for the regions of nine kinds
 pub record Fits (work : List ℕ) (c : Catalog) : Type 0 where
   pub small : c .cap < 1073741824
-  pub fits : c .at + 8 * sizeFor (c .cap) ≤ length work
+  pub fits : c .at + 9 * sizeFor (c .cap) ≤ length work
 
 -- work holds the records of all kinds
 pub record Cataloged (bytes work : List ℕ) (c : Catalog) : Type 0 where
   pub fits : Fits work c
-  pub kept : (k : ℕ) → k < 8 → Kept bytes (regionOf work c k) (c .cap)
-  pub keyed : (k : ℕ) → k < 8 → keyedKind k ≡ true → Keyed bytes (regionOf work c k) (c .cap)
+  pub kept : (k : ℕ) → k < 9 → Kept bytes (regionOf work c k) (capOf c k)
+  pub keyed : (k : ℕ) → k < 9 → keyedKind k ≡ true → Keyed bytes (regionOf work c k) (capOf c k)
 
 -- the other kinds' records are as they were
 abbrev pub OthersKept : List ℕ → List ℕ → Catalog → ℕ → Type 0
-OthersKept work work′ c k = (j : ℕ) → j < 8 → (j ≡ k → ⊥) → recordsOf work′ c j ≡ recordsOf work c j
+OthersKept work work′ c k = (j : ℕ) → j < 9 → (j ≡ k → ⊥) → recordsOf work′ c j ≡ recordsOf work c j
 
 -- what stands before the regions and behind them is as it was
 pub record Outside (work work′ : List ℕ) (c : Catalog) : Type 0 where
   pub long : length work′ ≡ length work
   pub ahead : (i : ℕ) → i < c .at → getD work′ i 0 ≡ getD work i 0
-  pub beyond : (i : ℕ) → c .at + 8 * sizeFor (c .cap) ≤ i → getD work′ i 0 ≡ getD work i 0
+  pub beyond : (i : ℕ) → c .at + 9 * sizeFor (c .cap) ≤ i → getD work′ i 0 ≡ getD work i 0
 
 -- one record more of a kind
 pub record More (bytes work work′ : List ℕ) (c : Catalog) (k : ℕ) (p : Place) : Type 0 where
@@ -71,86 +81,127 @@ abbrev pub EntersIn : List ℕ → List ℕ → List ℕ → Catalog → ℕ →
 EntersIn bytes work work′ c k p New = (FindsIn bytes (recordsOf work c k) (keyAt bytes p) → ⊥) × More bytes work work′ c k p
 EntersIn bytes work work′ c k p Old = FindsIn bytes (recordsOf work c k) (keyAt bytes p) × (work′ ≡ work)
 
--- ---- where the regions stand
-pub region-inside : (c : Catalog) (k : ℕ) → k < 8 → startOf c k + sizeFor (c .cap) ≤ c .at + 8 * sizeFor (c .cap)
-region-inside c k h =
-    let l : suc k ≤ 8 = h in
-    let m : suc k * sizeFor (c .cap) ≤ 8 * sizeFor (c .cap) = mul-le-mul-right (sizeFor (c .cap)) l in
-    omega arith
+-- ---- for how many records there is room
+pub cap-all : (c : Catalog) (k : ℕ) → 3 ≤ k → capOf c k ≡ c .cap
+unfolding capOf
+cap-all c k h = rw (le-ltb k 3 h, capOf)
 
-pub regions-apart : (c : Catalog) (j k : ℕ) → j < k → startOf c j + sizeFor (c .cap) ≤ startOf c k
+pub cap-own : (c : Catalog) (k : ℕ) → k < 3 → c .cap ≤ 4097 → capOf c k ≡ c .cap
+unfolding capOf
+cap-own c k h l = rw (lt-ltb k 3 h, le-ltb 4097 (c .cap) l, capOf)
+
+pub cap-least : (c : Catalog) (k : ℕ) → k < 3 → 4097 < c .cap → capOf c k ≡ 4097
+unfolding capOf
+cap-least c k h l = rw (lt-ltb k 3 h, lt-ltb 4097 (c .cap) l, capOf)
+
+-- the catalog's number, or the limit
+cap-either : (Q : ℕ → Type 0) (c : Catalog) (k : ℕ) → Q (c .cap) → (k < 3 → 4097 < c .cap → Q 4097) → Q (capOf c k)
+cap-either Q c k own least = elim (decLt k 3) [
+  | yes h ↦ elim (decLt 4097 (c .cap)) [ yes l ↦ subst Q (sym (cap-least c k h l)) (least h l) | no l ↦ subst Q (sym (cap-own c k h (omega arith))) own ]
+  | no h ↦ subst Q (sym (cap-all c k (omega arith))) own
+]
+
+-- of no kind for more than the catalog says
+pub cap-most : (c : Catalog) (k : ℕ) → capOf c k ≤ c .cap
+cap-most c k = cap-either (λ n. n ≤ c .cap) c k (omega arith) (λ h l. omega arith)
+
+-- for one more, if the catalog has room and of a kind with a limit there are few
+pub cap-room : (c : Catalog) (k n : ℕ) → n < c .cap → (k < 3 → n < 4097) → n < capOf c k
+cap-room c k n room few = cap-either (λ m. n < m) c k room (λ h l. few h)
+
+-- ---- where the regions stand
+pub region-inside : (c : Catalog) (k : ℕ) → k < 9 → startOf c k + sizeFor (capOf c k) ≤ c .at + 9 * sizeFor (c .cap)
+region-inside c k h =
+    let l : suc k ≤ 9 = h in
+    let m : suc k * sizeFor (c .cap) ≤ 9 * sizeFor (c .cap) = mul-le-mul-right (sizeFor (c .cap)) l in
+    omega (arith, cap-most c k)
+
+regions-apart : (c : Catalog) (j k : ℕ) → j < k → startOf c j + sizeFor (capOf c j) ≤ startOf c k
 regions-apart c j k h =
     let m : suc j * sizeFor (c .cap) ≤ k * sizeFor (c .cap) = mul-le-mul-right (sizeFor (c .cap)) h in
-    omega arith
+    omega (arith, cap-most c j)
+
+outside-same : (work : List ℕ) (c : Catalog) → Outside work work c
+outside-same work c = record { long = refl; ahead = λ i l. refl; beyond = λ i l. refl }
+
+outside-then : (work work′ work″ : List ℕ) (c : Catalog) → Outside work work′ c → Outside work′ work″ c → Outside work work″ c
+outside-then work work′ work″ c A B = record {
+  long = B .long ∙ A .long;
+  ahead = λ i l. B .ahead i l ∙ A .ahead i l;
+  beyond = λ i l. B .beyond i l ∙ A .beyond i l;
+}
 
 -- ---- a region that was lent and came back
-module _ (bytes work : List ℕ) (c : Catalog) (C : Cataloged bytes work c) (k : ℕ) (h : k < 8) (r : List ℕ) (long : length r ≡ sizeFor (c .cap)) where
+module _ (work : List ℕ) (c : Catalog) (F : Fits work c) (k : ℕ) (h : k < 9) (r : List ℕ) (long : length r ≡ sizeFor (capOf c k)) where
   abbrev n : ℕ
-  n = sizeFor (c .cap)
+  n = sizeFor (capOf c k)
 
   abbrev work′ : List ℕ
   work′ = put (startOf c k) n r work
 
   inside : startOf c k + n ≤ length work
-  inside = omega (arith, region-inside c k h, C .fits .fits)
+  inside = omega (arith, region-inside c k h, F .fits)
 
-  long-work : length work′ ≡ length work
-  long-work = length-put (startOf c k) n work inside r long
+  put-fits : Fits work′ c
+  put-fits = record { small = F .small; fits = omega (arith, F .fits, length-put (startOf c k) n work inside r long) }
 
-  pub region-same : regionOf work′ c k ≡ r
+  put-outside : Outside work work′ c
+  put-outside = record {
+    long = length-put (startOf c k) n work inside r long;
+    ahead = λ i l. put-before (startOf c k) n work inside r long i (omega arith);
+    beyond = λ i l. put-behind (startOf c k) n work inside r long i (omega (arith, region-inside c k h));
+  }
+
+  region-same : regionOf work′ c k ≡ r
   unfolding regionOf
   region-same = part-put (startOf c k) n work inside r long
 
-  pub region-other : (j : ℕ) → j < 8 → (j ≡ k → ⊥) → regionOf work′ c j ≡ regionOf work c j
+  region-other : (j : ℕ) → j < 9 → (j ≡ k → ⊥) → regionOf work′ c j ≡ regionOf work c j
   unfolding regionOf
   region-other j l d = elim (decLt j k) [
-    | yes b ↦ part-put-before (startOf c k) n work inside r long (startOf c j) n (regions-apart c j k b)
+    | yes b ↦ part-put-before (startOf c k) n work inside r long (startOf c j) (sizeFor (capOf c j)) (regions-apart c j k b)
     | no b ↦
-        part-put-behind (startOf c k) n work inside r long (startOf c j) n (regions-apart c k j (omega (arith, d)))
-        (omega (arith, region-inside c j l, C .fits .fits))
+        part-put-behind (startOf c k) n work inside r long (startOf c j) (sizeFor (capOf c j)) (regions-apart c k j (omega (arith, d)))
+        (omega (arith, region-inside c j l, F .fits))
   ]
 
-  pub others-kept : OthersKept work work′ c k
-  unfolding recordsOf
-  others-kept j l d = ap places (region-other j l d)
+  -- what holds of the region and of the others holds of all
+  put-each : (Q : List ℕ → ℕ → Type 0) (j : ℕ) → j < 9 → Q r k → ((j ≡ k → ⊥) → Q (regionOf work c j) j) → Q (regionOf work′ c j) j
+  put-each Q j l own other = elim (ℕ-discrete j k) [
+    | yes e ↦ subst (λ (i : ℕ). Q (regionOf work′ c i) i) (sym e) (subst (λ (x : List ℕ). Q x k) (sym region-same) own)
+    | no d ↦ subst (λ (x : List ℕ). Q x j) (sym (region-other j l d)) (other d)
+  ]
 
-  pub put-cataloged : Kept bytes r (c .cap) → (keyedKind k ≡ true → Keyed bytes r (c .cap)) → Cataloged bytes work′ c
-  put-cataloged K T = record {
-    fits = record { small = C .fits .small; fits = omega (arith, C .fits .fits, long-work) };
-    kept = λ j l. kept-at j l (ℕ-discrete j k);
-    keyed = λ j l e. keyed-at j l e (ℕ-discrete j k);
+-- so the records of all kinds are there
+module _ (bytes work : List ℕ) (c : Catalog) (C : Cataloged bytes work c) (k : ℕ) (h : k < 9) (r : List ℕ) (K : Kept bytes r (capOf c k)) (T : keyedKind k ≡ true → Keyed bytes r (capOf c k)) where
+  abbrev back : List ℕ
+  back = put (startOf c k) (sizeFor (capOf c k)) r work
+
+  put-cataloged : Cataloged bytes back c
+  put-cataloged = record {
+    fits = put-fits work c (C .fits) k h r (K .long);
+    kept = λ j l. put-each work c (C .fits) k h r (K .long) (λ x i. Kept bytes x (capOf c i)) j l K (λ d. C .kept j l);
+    keyed = λ j l. put-each work c (C .fits) k h r (K .long) (λ x i. keyedKind i ≡ true → Keyed bytes x (capOf c i)) j l T (λ d. C .keyed j l);
   }
-    where
-      kept-at : (j : ℕ) → j < 8 → Dec (j ≡ k) → Kept bytes (regionOf work′ c j) (c .cap)
-      kept-at j l (yes e) = subst (λ (x : List ℕ). Kept bytes x (c .cap)) (sym (ap (regionOf work′ c) e ∙ region-same)) K
-      kept-at j l (no d) = subst (λ (x : List ℕ). Kept bytes x (c .cap)) (sym (region-other j l d)) (C .kept j l)
 
-      keyed-at : (j : ℕ) → j < 8 → keyedKind j ≡ true → Dec (j ≡ k) → Keyed bytes (regionOf work′ c j) (c .cap)
-      keyed-at j l q (yes e) = subst (λ (x : List ℕ). Keyed bytes x (c .cap)) (sym (ap (regionOf work′ c) e ∙ region-same)) (T (sym (ap keyedKind e) ∙ q))
-      keyed-at j l q (no d) = subst (λ (x : List ℕ). Keyed bytes x (c .cap)) (sym (region-other j l d)) (C .keyed j l q)
-
-  pub put-more : (p : Place) → places r ≡ recordsOf work c k ++ (p ∷ []) → Kept bytes r (c .cap) → (keyedKind k ≡ true → Keyed bytes r (c .cap)) → More bytes work work′ c k p
+  put-more : (p : Place) → places r ≡ recordsOf work c k ++ (p ∷ []) → More bytes work back c k p
   unfolding recordsOf
-  put-more p e K T = record {
-    more = ap places region-same ∙ e;
-    others = others-kept;
-    outside = record {
-      long = long-work;
-      ahead = λ i l. put-before (startOf c k) n work inside r long i (omega arith);
-      beyond = λ i l. put-behind (startOf c k) n work inside r long i (omega (arith, region-inside c k h));
-    };
-    cataloged = put-cataloged K T;
+  put-more p e = record {
+    more = ap places (region-same work c (C .fits) k h r (K .long)) ∙ e;
+    others = λ j l d. ap places (region-other work c (C .fits) k h r (K .long) j l d);
+    outside = put-outside work c (C .fits) k h r (K .long);
+    cataloged = put-cataloged;
   }
 
 -- a region's length
-pub length-region : (work : List ℕ) (c : Catalog) (k : ℕ) → Fits work c → k < 8 → length (regionOf work c k) ≡ sizeFor (c .cap)
+pub length-region : (work : List ℕ) (c : Catalog) (k : ℕ) → Fits work c → k < 9 → length (regionOf work c k) ≡ sizeFor (capOf c k)
 unfolding regionOf
-length-region work c k F h = length-part (startOf c k) (sizeFor (c .cap)) work (omega (arith, region-inside c k h, F .fits))
+length-region work c k F h = length-part (startOf c k) (sizeFor (capOf c k)) work (omega (arith, region-inside c k h, F .fits))
 
 -- a word of a region in the whole
-pub region-at : (work : List ℕ) (c : Catalog) (k i : ℕ) → i < sizeFor (c .cap) → getD (regionOf work c k) i 0 ≡ getD work (startOf c k + i) 0
+pub region-at : (work : List ℕ) (c : Catalog) (k i : ℕ) → i < sizeFor (capOf c k) → getD (regionOf work c k) i 0 ≡ getD work (startOf c k + i) 0
 unfolding regionOf
-region-at work c k i h = part-at (startOf c k) (sizeFor (c .cap)) work i h
+region-at work c k i h = part-at (startOf c k) (sizeFor (capOf c k)) work i h
 
 pub length-records : (work : List ℕ) (c : Catalog) (k : ℕ) → length (recordsOf work c k) ≡ countIn (regionOf work c k)
 unfolding recordsOf
@@ -160,24 +211,28 @@ pub records-at : (work : List ℕ) (c : Catalog) (k i : ℕ) → i < length (rec
 unfolding recordsOf
 records-at work c k i h = places-at (regionOf work c k) i (omega (arith, length-places (regionOf work c k)))
 
+-- no more records of a kind than there is room for
+pub records-few : (bytes work : List ℕ) (c : Catalog) (k : ℕ) → Cataloged bytes work c → k < 9 → length (recordsOf work c k) ≤ c .cap
+records-few bytes work c k C l = omega (arith, length-records work c k, C .kept k l .few, cap-most c k)
+
 -- each record is framed
-pub record-framed : (bytes work : List ℕ) (c : Catalog) (k i : ℕ) → Cataloged bytes work c → k < 8 → i < length (recordsOf work c k) → Framed bytes (getD (recordsOf work c k) i noPlace)
+pub record-framed : (bytes work : List ℕ) (c : Catalog) (k i : ℕ) → Cataloged bytes work c → k < 9 → i < length (recordsOf work c k) → Framed bytes (getD (recordsOf work c k) i noPlace)
 record-framed bytes work c k i C h l =
     subst (λ (p : Place). Framed bytes p) (sym (records-at work c k i l)) (C .kept k h .framed i (omega (arith, length-records work c k)))
 
-put-region : (work : List ℕ) (c : Catalog) (k : ℕ) → startOf c k + sizeFor (c .cap) ≤ length work → put (startOf c k) (sizeFor (c .cap)) (regionOf work c k) work ≡ work
+put-region : (work : List ℕ) (c : Catalog) (k : ℕ) → startOf c k + sizeFor (capOf c k) ≤ length work → put (startOf c k) (sizeFor (capOf c k)) (regionOf work c k) work ≡ work
 unfolding regionOf
-put-region work c k f = put-part (startOf c k) (sizeFor (c .cap)) work f
+put-region work c k f = put-part (startOf c k) (sizeFor (capOf c k)) work f
 
 -- what a region's `enter` says of the whole
-pub entered-in : (bytes work : List ℕ) (c : Catalog) (C : Cataloged bytes work c) (k : ℕ) (h : k < 8) (r : List ℕ) (p : Place) (e : Entered)
-    → Enters bytes (regionOf work c k) r (c .cap) p e → EntersIn bytes work (put (startOf c k) (sizeFor (c .cap)) r work) c k p e
+pub entered-in : (bytes work : List ℕ) (c : Catalog) (C : Cataloged bytes work c) (k : ℕ) (h : k < 9) (r : List ℕ) (p : Place) (e : Entered)
+    → Enters bytes (regionOf work c k) r (capOf c k) p e → EntersIn bytes work (put (startOf c k) (sizeFor (capOf c k)) r work) c k p e
 unfolding recordsOf
 entered-in bytes work c C k h r p New E =
-    (λ f. E .0 (f .0) (f .1) (f .2), put-more bytes work c C k h r (E .2 .kept .long) p (E .1) (E .2 .kept) (λ q. E .2))
+    (λ f. E .0 (f .0) (f .1) (f .2), put-more bytes work c C k h r (E .2 .kept) (λ q. E .2) p (E .1))
 entered-in bytes work c C k h r p Old E =
-    let f : startOf c k + sizeFor (c .cap) ≤ length work = omega (arith, region-inside c k h, C .fits .fits) in
-    ((E .0 .0, E .0 .1 .0, E .0 .1 .1), ap (λ (x : List ℕ). put (startOf c k) (sizeFor (c .cap)) x work) (E .1) ∙ put-region work c k f)
+    let f : startOf c k + sizeFor (capOf c k) ≤ length work = omega (arith, region-inside c k h, C .fits .fits) in
+    ((E .0 .0, E .0 .1 .0, E .0 .1 .1), ap (λ (x : List ℕ). put (startOf c k) (sizeFor (capOf c k)) x work) (E .1) ∙ put-region work c k f)
 
 -- what `find` answers
 abbrev pub SoughtIn : List ℕ → List Place → List ℕ → Sought → Type 0
@@ -187,81 +242,94 @@ SoughtIn bytes ps key Nowhere = FindsIn bytes ps key → ⊥
 -- a framed record, and room for it
 pub record EnteringIn (bytes work : List ℕ) (c : Catalog) (k : ℕ) (p : Place) : Type 0 where
   pub cataloged : Cataloged bytes work c
-  pub kind : k < 8
+  pub kind : k < 9
   pub framed : Framed bytes p
-  pub room : length (recordsOf work c k) < c .cap
+  pub room : length (recordsOf work c k) < capOf c k
   pub short : length bytes < 4294967296
 
-pub entering-in : (bytes work : List ℕ) (c : Catalog) (k : ℕ) (p : Place) → EnteringIn bytes work c k p → Entering bytes (regionOf work c k) (c .cap) p
+pub entering-in : (bytes work : List ℕ) (c : Catalog) (k : ℕ) (p : Place) → EnteringIn bytes work c k p → Entering bytes (regionOf work c k) (capOf c k) p
 entering-in bytes work c k p E = record { framed = E .framed; room = omega (arith, E .room, length-records work c k); short = E .short }
 
--- no records, whatever the pack is
-pub record Cleared (work : List ℕ) (c : Catalog) : Type 0 where
-  pub none : (k : ℕ) → k < 8 → recordsOf work c k ≡ []
+-- no records, whatever the pack is, and nothing else has changed
+pub record Cleared (before work : List ℕ) (c : Catalog) : Type 0 where
+  pub none : (k : ℕ) → k < 9 → recordsOf work c k ≡ []
   pub cataloged : (bytes : List ℕ) → Cataloged bytes work c
+  pub outside : Outside before work c
 
--- the regions below k are without records
-pub record Clearing (work : List ℕ) (c : Catalog) (k : ℕ) : Type 0 where
+-- the regions below k are without records, and nothing else has changed
+pub record Clearing (before work : List ℕ) (c : Catalog) (k : ℕ) : Type 0 where
   pub fits : Fits work c
-  pub emptied : (j : ℕ) → j < k → Emptied (regionOf work c j) (c .cap)
+  pub emptied : (j : ℕ) → j < k → Emptied (regionOf work c j) (capOf c j) (keyedKind j)
+  pub outside : Outside before work c
 
-pub clearing-none : (work : List ℕ) (c : Catalog) → Fits work c → Clearing work c 0
-clearing-none work c F = record { fits = F; emptied = λ j h. absurd (omega arith) }
+pub clearing-none : (work : List ℕ) (c : Catalog) → Fits work c → Clearing work work c 0
+clearing-none work c F = record { fits = F; emptied = λ j h. absurd (omega arith); outside = outside-same work c }
 
-pub clearing-more : (work : List ℕ) (c : Catalog) (k : ℕ) (r : List ℕ) → k < 8 → length r ≡ sizeFor (c .cap) → Clearing work c k → Emptied r (c .cap) → Clearing (put (startOf c k) (sizeFor (c .cap)) r work) c (k + 1)
-unfolding regionOf
-clearing-more work c k r h long C E =
-    let n : ℕ = sizeFor (c .cap) in
-    let inside : startOf c k + n ≤ length work = omega (arith, region-inside c k h, C .fits .fits) in
+clearing-more : (before work : List ℕ) (c : Catalog) (k : ℕ) (r : List ℕ) → k < 9 → Clearing before work c k → Emptied r (capOf c k) (keyedKind k) → Clearing before (put (startOf c k) (sizeFor (capOf c k)) r work) c (k + 1)
+clearing-more before work c k r h C E =
+    let long : length r ≡ sizeFor (capOf c k) = E .kept [] .long in
     record {
-      fits = record { small = C .fits .small; fits = omega (arith, C .fits .fits, length-put (startOf c k) n work inside r long) };
-      emptied = λ j l. emptied-at j l (ℕ-discrete j k) inside;
+      fits = put-fits work c (C .fits) k h r long;
+      emptied = λ j l. put-each work c (C .fits) k h r long (λ x i. Emptied x (capOf c i) (keyedKind i)) j (omega arith) E (λ d. C .emptied j (omega (arith, d)));
+      outside = outside-then before work (put (startOf c k) (sizeFor (capOf c k)) r work) c (C .outside) (put-outside work c (C .fits) k h r long);
     }
-  where
-    emptied-at : (j : ℕ) → j < k + 1 → Dec (j ≡ k) → startOf c k + sizeFor (c .cap) ≤ length work → Emptied (part (startOf c j) (sizeFor (c .cap)) (put (startOf c k) (sizeFor (c .cap)) r work)) (c .cap)
-    emptied-at j l (yes e) f =
-        subst (λ (x : List ℕ). Emptied x (c .cap)) (sym (ap (λ (i : ℕ). part (startOf c i) (sizeFor (c .cap)) (put (startOf c k) (sizeFor (c .cap)) r work)) e ∙ part-put (startOf c k) (sizeFor (c .cap)) work f r long)) E
-    emptied-at j l (no d) f =
-        subst (λ (x : List ℕ). Emptied x (c .cap)) (sym (part-put-before (startOf c k) (sizeFor (c .cap)) work f r long (startOf c j) (sizeFor (c .cap)) (regions-apart c j k (omega (arith, d))))) (C .emptied j (omega (arith, d)))
 
-pub all-cleared : (work : List ℕ) (c : Catalog) → Clearing work c 8 → Cleared work c
+pub all-cleared : (before work : List ℕ) (c : Catalog) → Clearing before work c 9 → Cleared before work c
 unfolding recordsOf
-all-cleared work c C = record {
+all-cleared before work c C = record {
   none = λ k h. C .emptied k h .none;
-  cataloged = λ bytes. record { fits = C .fits; kept = λ k h. C .emptied k h .keyed bytes .kept; keyed = λ k h e. C .emptied k h .keyed bytes };
+  cataloged = λ bytes. record { fits = C .fits; kept = λ k h. C .emptied k h .kept bytes; keyed = λ k h e. C .emptied k h .keyed e bytes };
+  outside = C .outside;
 }
 
 -- ---- a region lent as `work[a..a + n]`
-pub lent-region : (work : List ℕ) (c : Catalog) (k a : ℕ) → a ≡ startOf c k → take (a + sizeFor (c .cap) - a) (drop a work) ≡ regionOf work c k
-unfolding regionOf
-lent-region work c k a e = part-lent a (a + sizeFor (c .cap)) (sizeFor (c .cap)) work refl ∙ ap (λ (x : ℕ). part x (sizeFor (c .cap)) work) e
+module _ (work : List ℕ) (c : Catalog) (k a m : ℕ) (e : a ≡ startOf c k) (f : m ≡ capOf c k) where
+  lent-region : take (a + sizeFor m - a) (drop a work) ≡ regionOf work c k
+  unfolding regionOf
+  lent-region = part-lent a (a + sizeFor m) (sizeFor m) work refl ∙ ap₂ (λ (x y : ℕ). part x (sizeFor y) work) e f
 
-pub lent-put : (work : List ℕ) (c : Catalog) (k a : ℕ) (r : List ℕ) → a ≡ startOf c k → put a (a + sizeFor (c .cap) - a) r work ≡ put (startOf c k) (sizeFor (c .cap)) r work
-lent-put work c k a r e = put-lent a (a + sizeFor (c .cap)) (sizeFor (c .cap)) work r r refl refl ∙ ap (λ (x : ℕ). put x (sizeFor (c .cap)) r work) e
+  pub lent-put : (r : List ℕ) → put a (a + sizeFor m - a) r work ≡ put (startOf c k) (sizeFor (capOf c k)) r work
+  lent-put r = put-lent a (a + sizeFor m) (sizeFor m) work r r refl refl ∙ ap₂ (λ (x y : ℕ). put x (sizeFor y) r work) e f
+
+  -- what holds of the region holds of what is lent, and the other way
+  pub lent : (Q : List ℕ → ℕ → Type 0) → Q (regionOf work c k) (capOf c k) → Q (take (a + sizeFor m - a) (drop a work)) m
+  lent Q q = subst (λ (y : ℕ). Q (take (a + sizeFor m - a) (drop a work)) y) (sym f) (subst (λ (x : List ℕ). Q x (capOf c k)) (sym lent-region) q)
+
+  pub unlent : (Q : List ℕ → ℕ → Type 0) → Q (take (a + sizeFor m - a) (drop a work)) m → Q (regionOf work c k) (capOf c k)
+  unlent Q q = subst (λ (x : List ℕ). Q x (capOf c k)) lent-region (subst (λ (y : ℕ). Q (take (a + sizeFor m - a) (drop a work)) y) f q)
+
+  pub lent-inside : Fits work c → k < 9 → a + sizeFor m ≤ length work
+  lent-inside F h = omega (arith, region-inside c k h, F .fits)
+
+  -- one region more is without records
+  pub clearing-lent : (before r : List ℕ) (keys : Bool) → keys ≡ keyedKind k → k < 9 → Clearing before work c k → Emptied r m keys → Clearing before (put a (a + sizeFor m - a) r work) c (k + 1)
+  clearing-lent before r keys g h C E =
+      subst (λ (w : List ℕ). Clearing before w c (k + 1)) (sym (lent-put r))
+      (clearing-more before work c k r h C (subst (λ (b : Bool). Emptied r (capOf c k) b) g (subst (λ (y : ℕ). Emptied r y keys) f E)))
 
 pub sought-in : (bytes work : List ℕ) (c : Catalog) (k : ℕ) (key : List ℕ) (s : Sought) → Finds bytes (regionOf work c k) key s → SoughtIn bytes (recordsOf work c k) key s
 unfolding recordsOf
 sought-in bytes work c k key (At i) F = F
 sought-in bytes work c k key Nowhere F = λ f. F (f .0) (f .1) (f .2)
 
-pub pushed-in : (bytes work : List ℕ) (c : Catalog) (C : Cataloged bytes work c) (k : ℕ) (h : k < 8) (r : List ℕ) (p : Place) → keyedKind k ≡ false → places r ≡ places (regionOf work c k) ++ (p ∷ []) → Kept bytes r (c .cap)
-    → More bytes work (put (startOf c k) (sizeFor (c .cap)) r work) c k p
+pub pushed-in : (bytes work : List ℕ) (c : Catalog) (C : Cataloged bytes work c) (k : ℕ) (h : k < 9) (r : List ℕ) (p : Place) → keyedKind k ≡ false → places r ≡ places (regionOf work c k) ++ (p ∷ []) → Kept bytes r (capOf c k)
+    → More bytes work (put (startOf c k) (sizeFor (capOf c k)) r work) c k p
 unfolding recordsOf
-pushed-in bytes work c C k h r p q e K = put-more bytes work c C k h r (K .long) p e K (λ t. never (let z : true ≡ false = sym t ∙ q in cc))
+pushed-in bytes work c C k h r p q e K = put-more bytes work c C k h r K (λ t. never (let z : true ≡ false = sym t ∙ q in cc)) p e
 
 -- ---- a store behind the regions
-module _ (bytes work : List ℕ) (c : Catalog) (C : Cataloged bytes work c) (i v : ℕ) (h : c .at + 8 * sizeFor (c .cap) ≤ i) where
-  region-set : (k : ℕ) → k < 8 → regionOf (set work i v) c k ≡ regionOf work c k
+module _ (bytes work : List ℕ) (c : Catalog) (C : Cataloged bytes work c) (i v : ℕ) (h : c .at + 9 * sizeFor (c .cap) ≤ i) where
+  region-set : (k : ℕ) → k < 9 → regionOf (set work i v) c k ≡ regionOf work c k
   unfolding regionOf
-  region-set k l = part-set-behind (startOf c k) (sizeFor (c .cap)) work i v (omega (arith, region-inside c k l))
+  region-set k l = part-set-behind (startOf c k) (sizeFor (capOf c k)) work i v (omega (arith, region-inside c k l))
 
-  pub records-set : (k : ℕ) → k < 8 → recordsOf (set work i v) c k ≡ recordsOf work c k
+  pub records-set : (k : ℕ) → k < 9 → recordsOf (set work i v) c k ≡ recordsOf work c k
   unfolding recordsOf
   records-set k l = ap places (region-set k l)
 
   pub cataloged-set : Cataloged bytes (set work i v) c
   cataloged-set = record {
     fits = record { small = C .fits .small; fits = rw (length-set work i v) (C .fits .fits) };
-    kept = λ k l. subst (λ (r : List ℕ). Kept bytes r (c .cap)) (sym (region-set k l)) (C .kept k l);
-    keyed = λ k l e. subst (λ (r : List ℕ). Keyed bytes r (c .cap)) (sym (region-set k l)) (C .keyed k l e);
+    kept = λ k l. subst (λ (r : List ℕ). Kept bytes r (capOf c k)) (sym (region-set k l)) (C .kept k l);
+    keyed = λ k l e. subst (λ (r : List ℕ). Keyed bytes r (capOf c k)) (sym (region-set k l)) (C .keyed k l e);
   }

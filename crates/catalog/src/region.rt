@@ -139,12 +139,15 @@ pub fn enter(pack: &[u8], region: &mut [u32], cap: usize, at: usize, from: usize
     Entered::New
 }
 
-// A region without records.
-pub fn clear(region: &mut [u32], cap: usize)
+// A region without records; the slots of a kind without keys are never read.
+pub fn clear(region: &mut [u32], cap: usize, keys: bool)
     requires { ⌜ (length (now region) ≡ sizeFor cap) × (cap < 1073741824) ⌝ }
-    ensures { λ _. ⌜ Emptied (now (region .exit)) cap ⌝ }
+    ensures { λ _. ⌜ Emptied (now (region .exit)) cap keys ⌝ }
 {
     region[0] = 0;
+    if !keys {
+        return;
+    }
     let a = 2 * cap + 1;
     zero_words(&mut region[a..a + (3 * cap + 1)]);
 }

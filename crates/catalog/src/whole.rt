@@ -1,5 +1,5 @@
 // The regions of all kinds, one behind the other in work. Kinds are counted from 0 here: sorts, symbols, rules, nodes, steps, goals,
-// results, cuts.
+// results, cuts, and the abstract record.
 use crate::region::Entered;
 use crate::region::Sought;
 ghost use mathlib.Core.Path.{_≡_};
@@ -7,18 +7,44 @@ ghost use mathlib.Core.Bool.{true, false};
 ghost use Prim.Native.Nat.{_<_};
 ghost use lib.ListN.{length, getD};
 ghost use Rattle.catalog.specs.Place.{noPlace, keyAt};
-ghost use Rattle.catalog.specs.Whole.{startOf, recordsOf, keyedKind, Fits, Cataloged, EnteringIn, SoughtIn, EntersIn, More, Cleared, Clearing};
+ghost use Rattle.catalog.specs.Whole.{startOf, capOf, recordsOf, keyedKind, Fits, Cataloged, EnteringIn, SoughtIn, EntersIn, More, Cleared, Clearing};
 
-// Where the first region starts, and for how many records each has room.
+// Where the first region starts, and for how many records each has room at most.
 pub struct Catalog {
     pub at: usize,
     pub cap: usize,
 }
 
+// Whether the records of a kind have keys.
+fn has_keys(kind: usize) -> bool
+    ensures { λ r. ⌜ r ≡ keyedKind kind ⌝ }
+{
+    if kind == 4 {
+        return false;
+    }
+    if kind == 7 {
+        return false;
+    }
+    kind != 8
+}
+
 impl Catalog {
+    // For how many records of a kind there is room.
+    fn cap_of(self, kind: usize) -> usize
+        ensures { λ r. ⌜ r ≡ capOf self kind ⌝ }
+    {
+        if 3 <= kind {
+            return self.cap;
+        }
+        if self.cap <= 4097 {
+            return self.cap;
+        }
+        4097
+    }
+
     // Where the region of a kind starts.
     fn start(self, work: &[u32], kind: usize) -> usize
-        requires { ⌜ Fits (now work) self × (kind < 8) ⌝ }
+        requires { ⌜ Fits (now work) self × (kind < 9) ⌝ }
         ensures { λ r. ⌜ r ≡ startOf self kind ⌝ }
     {
         self.at + kind * (5 * self.cap + 2)
@@ -26,7 +52,7 @@ impl Catalog {
 
     // How many records of a kind there are.
     pub fn count(self, work: &[u32], kind: usize) -> usize
-        requires { ⌜ Fits (now work) self × (kind < 8) ⌝ }
+        requires { ⌜ Fits (now work) self × (kind < 9) ⌝ }
         ensures { λ r. ⌜ r ≡ length (recordsOf (now (work .entry)) self kind) ⌝ }
     {
         let a = self.start(work, kind);
@@ -35,7 +61,7 @@ impl Catalog {
 
     // Where record `i` of a kind stands in the pack.
     pub fn place(self, pack: &[u8], work: &[u32], kind: usize, i: usize) -> usize
-        requires { ⌜ Cataloged (now pack) (now work) self × (kind < 8) × (i < length (recordsOf (now work) self kind)) ⌝ }
+        requires { ⌜ Cataloged (now pack) (now work) self × (kind < 9) × (i < length (recordsOf (now work) self kind)) ⌝ }
         ensures { λ r. ⌜ r ≡ getD (recordsOf (now (work .entry)) self kind) i noPlace .at ⌝ }
     {
         let a = self.start(work, kind);
@@ -44,7 +70,7 @@ impl Catalog {
 
     // Where its key starts.
     pub fn key_place(self, pack: &[u8], work: &[u32], kind: usize, i: usize) -> usize
-        requires { ⌜ Cataloged (now pack) (now work) self × (kind < 8) × (i < length (recordsOf (now work) self kind)) ⌝ }
+        requires { ⌜ Cataloged (now pack) (now work) self × (kind < 9) × (i < length (recordsOf (now work) self kind)) ⌝ }
         ensures { λ r. ⌜ r ≡ getD (recordsOf (now (work .entry)) self kind) i noPlace .from ⌝ }
     {
         let a = self.start(work, kind);
@@ -53,11 +79,11 @@ impl Catalog {
 
     // The record of a kind that has this key.
     pub fn find(self, pack: &[u8], work: &[u32], kind: usize, key: &[u8]) -> Sought
-        requires { ⌜ Cataloged (now pack) (now work) self × (kind < 8) × (keyedKind kind ≡ true) ⌝ }
+        requires { ⌜ Cataloged (now pack) (now work) self × (kind < 9) × (keyedKind kind ≡ true) ⌝ }
         ensures { λ r. ⌜ SoughtIn (now (pack .entry)) (recordsOf (now (work .entry)) self kind) (now (key .entry)) r ⌝ }
     {
         let a = self.start(work, kind);
-        let cap = self.cap;
+        let cap = self.cap_of(kind);
         crate::region::find(pack, &work[a..a + (5 * cap + 2)], cap, key)
     }
 
@@ -74,7 +100,7 @@ impl Catalog {
         ensures { λ r. ⌜ EntersIn (now (pack .entry)) (now (work .entry)) (now (work .exit)) self kind (record { at = at; from = from }) r ⌝ }
     {
         let a = self.start(work, kind);
-        let cap = self.cap;
+        let cap = self.cap_of(kind);
         crate::region::enter(pack, &mut work[a..a + (5 * cap + 2)], cap, at, from)
     }
 
@@ -84,22 +110,22 @@ impl Catalog {
         ensures { λ _. ⌜ More (now (pack .entry)) (now (work .entry)) (now (work .exit)) self kind (record { at = at; from = from }) ⌝ }
     {
         let a = self.start(work, kind);
-        let cap = self.cap;
+        let cap = self.cap_of(kind);
         crate::region::push(pack, &mut work[a..a + (5 * cap + 2)], cap, at, from);
     }
 
     // No records, with room for `cap` of each kind.
     pub fn new(work: &mut [u32], at: usize, cap: usize) -> Catalog
         requires { ⌜ Fits (now work) (record { at = at; cap = cap }) ⌝ }
-        ensures { λ r. ⌜ (r ≡ record { at = at; cap = cap }) × Cleared (now (work .exit)) r ⌝ }
+        ensures { λ r. ⌜ (r ≡ record { at = at; cap = cap }) × Cleared (now (work .entry)) (now (work .exit)) r ⌝ }
     {
         let c = Catalog { at: at, cap: cap };
-        let size = 5 * cap + 2;
-        let mut a = at;
         let mut k: usize = 0;
-        while k < 8 {
-            crate::region::clear(&mut work[a..a + size], cap);
-            a += size;
+        while k < 9 {
+            let a = c.start(work, k);
+            let n = c.cap_of(k);
+            let keys = has_keys(k);
+            crate::region::clear(&mut work[a..a + (5 * n + 2)], n, keys);
             k += 1;
         }
         c

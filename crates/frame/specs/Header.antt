@@ -12,7 +12,7 @@ use Rattle.definition.specs.Test.{_and_}
 use Rattle.definition.specs.Little.{le}
 use Rattle.definition.specs.Frame.{Checked, good, bad, record-of, _>>=_, right}
 use Rattle.definition.specs.Parse.{kinds}
-use Rattle.frame.specs.Name.{and-no}
+use Rattle.frame.specs.Name.{and-false}
 use Rattle.frame.specs.Row.{le-drop}
 use Rattle.frame.specs.declared.header.Header.{Header}
 use Rattle.frame.specs.declared.header.Header.the-variants.{Whole, Bad}
@@ -61,7 +61,7 @@ low-bad s at last h = right-bad _ _ (right-bad _ _ (right-no _ _ (rw (le-drop 2 
 -- a kind above the last
 pub high-bad : (s : List ℕ) (at last : ℕ) → 9 < le 2 s (at + 4) → record-of kinds last (drop at s) ≡ bad
 unfolding record-of kinds
-high-bad s at last h = right-bad _ _ (right-bad _ _ (right-no _ _ (rw (le-drop 2 at s 4, lt-leb (le 2 s (at + 4)) 9 h) (and-no (leb 1 (le 2 s (at + 4)))))))
+high-bad s at last h = right-bad _ _ (right-bad _ _ (right-no _ _ (rw (le-drop 2 at s 4, lt-leb (le 2 s (at + 4)) 9 h) (and-false (leb 1 (le 2 s (at + 4)))))))
 
 -- a kind that falls
 pub falls-bad : (s : List ℕ) (at last : ℕ) → le 2 s (at + 4) < last → record-of kinds last (drop at s) ≡ bad

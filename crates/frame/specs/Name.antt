@@ -12,16 +12,16 @@ use Rattle.definition.specs.Test.{never, _and_, all}
 use Rattle.definition.specs.Theory.{nameByte, isName}
 
 -- a test that fails at its end
-pub and-no : (a : Bool) → a and false ≡ false
+pub and-false : (a : Bool) → a and false ≡ false
 unfolding _and_
-and-no true = refl
-and-no false = refl
+and-false true = refl
+and-false false = refl
 
 -- a test that passes at its end
-pub and-yes : (a : Bool) → a and true ≡ a
+pub and-true : (a : Bool) → a and true ≡ a
 unfolding _and_
-and-yes true = refl
-and-yes false = refl
+and-true true = refl
+and-true false = refl
 
 -- what is too low is no byte of a name
 pub low-no : (b : ℕ) → b < 33 → nameByte b ≡ false
@@ -31,12 +31,12 @@ low-no b h = rw (lt-leb 33 b h, _and_)
 -- nor is what is too high
 pub high-no : (b : ℕ) → 126 < b → nameByte b ≡ false
 unfolding nameByte
-high-no b h = rw (lt-leb b 126 h, and-no (leb 33 b), _and_)
+high-no b h = rw (lt-leb b 126 h, and-false (leb 33 b), _and_)
 
 -- nor an opening bracket
 pub open-no : (b : ℕ) → b ≡ 40 → nameByte b ≡ false
 unfolding nameByte
-open-no b h = rw (eq-eqb b 40 h, and-no (leb 33 b and leb b 126), _and_)
+open-no b h = rw (eq-eqb b 40 h, and-false (leb 33 b and leb b 126), _and_)
 
 -- anything else is one unless it is a closing bracket
 pub byte-is : (b : ℕ) → 33 ≤ b → b ≤ 126 → (b ≡ 40 → ⊥) → nameByte b ≡ not (eqb b 41)
@@ -68,17 +68,17 @@ none-no s l = rw (lt-leb 1 (length s) l, _and_)
 -- nor is what is too long
 pub long-no : (s : List ℕ) → 64 < length s → isName s ≡ false
 unfolding isName
-long-no s l = rw (lt-leb (length s) 64 l, and-no (leb 1 (length s)), _and_)
+long-no s l = rw (lt-leb (length s) 64 l, and-false (leb 1 (length s)), _and_)
 
 -- nor what starts with a question mark
 pub mark-no : (s : List ℕ) → getD s 0 0 ≡ 63 → isName s ≡ false
 unfolding isName
-mark-no s e = rw (eq-eqb (getD s 0 0) 63 e) (and-no (leb 1 (length s) and leb (length s) 64 and all nameByte s))
+mark-no s e = rw (eq-eqb (getD s 0 0) 63 e) (and-false (leb 1 (length s) and leb (length s) 64 and all nameByte s))
 
 -- anything else is one if its bytes are
 pub name-is : (s : List ℕ) → 1 ≤ length s → length s ≤ 64 → (getD s 0 0 ≡ 63 → ⊥) → isName s ≡ all nameByte s
 unfolding isName
-name-is s l m e = rw (le-leb 1 (length s) l, le-leb (length s) 64 m, ne-eqb (getD s 0 0) 63 e, _and_) (and-yes (all nameByte s))
+name-is s l m e = rw (le-leb 1 (length s) l, le-leb (length s) 64 m, ne-eqb (getD s 0 0) 63 e, _and_) (and-true (all nameByte s))
 
 -- a test that code negates
 pub denied : (b t : Bool) → b ≡ t → not b ≡ true → t ≡ false

@@ -16,7 +16,7 @@ use Rattle.definition.specs.Pack.{Node}
 use Rattle.definition.specs.Store.{placeOf, intern, patternWords, nodesIn}
 use Rattle.definition.specs.Answer.{padded, padded-none}
 use Rattle.base.specs.Zero.{zeroed}
-use Rattle.store.specs.Words.{nodeOf, length-more, begins-take, begins-long}
+use Rattle.store.specs.Words.{nodeWith, length-more, begins-take, begins-long}
 use Rattle.store.specs.Stored.{Stored, Enough, nodes}
 use Rattle.store.specs.declared.nodes.Store.{Store}
 use Rattle.interner.specs.declared.Turn.{Turn}
@@ -51,15 +51,15 @@ cut-drop n m ws e = elim (decLt n (length ws)) [
 ]
 
 -- a count, a head and behind them arguments, as many of them as there are
-first-node : (k n m h : ℕ) (ws : List ℕ) → m ≡ min n (length ws) → nodesIn (suc k) (n ∷ h ∷ ws) ≡ nodeOf (take (suc m) (h ∷ ws)) ∷ nodesIn k (drop m ws)
-unfolding nodesIn nodeOf
+first-node : (k n m h : ℕ) (ws : List ℕ) → m ≡ min n (length ws) → nodesIn (suc k) (n ∷ h ∷ ws) ≡ nodeWith (take (suc m) (h ∷ ws)) ∷ nodesIn k (drop m ws)
+unfolding nodesIn nodeWith
 first-node k n m h ws e =
     let t : take n ws ≡ take m ws = cut-take n m ws e in
     let d : drop n ws ≡ drop m ws = cut-drop n m ws e in
     rw (t, d)
 
 -- the node at a place, and what follows it
-pub nodes-next : (from : List ℕ) (at k : ℕ) → at + 1 < length from → nodesIn (suc k) (drop at from) ≡ nodeOf (keyAt from at (endOf from at)) ∷ nodesIn k (drop (endOf from at) from)
+pub nodes-next : (from : List ℕ) (at k : ℕ) → at + 1 < length from → nodesIn (suc k) (drop at from) ≡ nodeWith (keyAt from at (endOf from at)) ∷ nodesIn k (drop (endOf from at) from)
 nodes-next from at k h =
     let n : ℕ = getD from at 0 in
     let ws : List ℕ = drop (at + 2) from in
@@ -74,7 +74,7 @@ nodes-next from at k h =
     let all : drop at from ≡ n ∷ h₂ ∷ ws = drop-cons from at 0 (omega arith) ∙ ap (λ (j : ℕ). n ∷ drop j from) (sym (add-one at)) ∙ ap (λ (l : List ℕ). n ∷ l) tail in
     let key : take (suc m) (h₂ ∷ ws) ≡ keyAt from at end = ap (λ (l : List ℕ). take (suc m) l) (sym tail) ∙ ap (λ (j : ℕ). take j (drop (at + 1) from)) q in
     let rest : drop m ws ≡ drop end from = drop-drop m (at + 2) from ∙ ap (λ (j : ℕ). drop j from) r in
-    ap (nodesIn (suc k)) all ∙ first-node k n m h₂ ws (omega arith) ∙ ap₂ (λ (x : List ℕ) (y : List ℕ). nodeOf x ∷ nodesIn k y) key rest
+    ap (nodesIn (suc k)) all ∙ first-node k n m h₂ ws (omega arith) ∙ ap₂ (λ (x : List ℕ) (y : List ℕ). nodeWith x ∷ nodesIn k y) key rest
 
 -- a node has its head at least
 pub some-key : (from : List ℕ) (at end : ℕ) → at + 1 < length from → end ≡ endOf from at → 0 < length (keyAt from at end)
@@ -159,17 +159,17 @@ module _ (from numbers : List ℕ) (s : List Node) (at i : ℕ) (H : Halfway fro
 
   -- one node more
   module _ (more : i < length numbers) (two : at + 1 < length from) where
-    left-is : nodesIn (length numbers - i) (drop at from) ≡ nodeOf (keyAt from at (endOf from at)) ∷ nodesIn (length numbers - (i + 1)) (drop (endOf from at) from)
+    left-is : nodesIn (length numbers - i) (drop at from) ≡ nodeWith (keyAt from at (endOf from at)) ∷ nodesIn (length numbers - (i + 1)) (drop (endOf from at) from)
     left-is = let e : length numbers - i ≡ suc (length numbers - (i + 1)) = omega arith in ap (λ (k : ℕ). nodesIn k (drop at from)) e ∙ nodes-next from at (length numbers - (i + 1)) two
 
-    pub turned : (end v : ℕ) (t : List Node) → end ≡ endOf from at → v ≡ intern s (nodeOf (keyAt from at end)) .number → t ≡ intern s (nodeOf (keyAt from at end)) .store
+    pub turned : (end v : ℕ) (t : List Node) → end ≡ endOf from at → v ≡ intern s (nodeWith (keyAt from at end)) .number → t ≡ intern s (nodeWith (keyAt from at end)) .store
         → Halfway from (set numbers i v) t end (i + 1)
     unfolding internAll
     turned end v t e n q =
         let l : length (set numbers i v) ≡ length numbers = length-set numbers i v in
-        let m : Node = nodeOf (keyAt from at (endOf from at)) in
-        let v-is : v ≡ intern s m .number = n ∙ ap (λ (j : ℕ). intern s (nodeOf (keyAt from at j)) .number) e in
-        let t-is : t ≡ intern s m .store = q ∙ ap (λ (j : ℕ). intern s (nodeOf (keyAt from at j)) .store) e in
+        let m : Node = nodeWith (keyAt from at (endOf from at)) in
+        let v-is : v ≡ intern s m .number = n ∙ ap (λ (j : ℕ). intern s (nodeWith (keyAt from at j)) .number) e in
+        let t-is : t ≡ intern s m .store = q ∙ ap (λ (j : ℕ). intern s (nodeWith (keyAt from at j)) .store) e in
         let N = ap (λ (ms : List Node). take i numbers ++ internAll s ms .numbers) (sym left-is) ∙ H .numbers-are in
         let S = ap (λ (ms : List Node). internAll s ms .store) (sym left-is) ∙ H .store-is in
         record {
@@ -179,10 +179,10 @@ module _ (from numbers : List ℕ) (s : List Node) (at i : ℕ) (H : Halfway fro
           store-is = rw (l, e, t-is) S;
         }
 
-    pub full : (end k : ℕ) → end ≡ endOf from at → k < length (patternWords (intern s (nodeOf (keyAt from at end)) .store)) → k < length (patternWords (whole from (length numbers) .store))
+    pub full : (end k : ℕ) → end ≡ endOf from at → k < length (patternWords (intern s (nodeWith (keyAt from at end)) .store)) → k < length (patternWords (whole from (length numbers) .store))
     unfolding internAll
     full end k e h =
-        let m : Node = nodeOf (keyAt from at (endOf from at)) in
+        let m : Node = nodeWith (keyAt from at (endOf from at)) in
         let S = ap (λ (ms : List Node). internAll s ms .store) (sym left-is) ∙ H .store-is in
         let g = all-grows (intern s m .store) (nodesIn (length numbers - (i + 1)) (drop (endOf from at) from)) in
         let h′ : k < length (patternWords (intern s m .store)) = rw e at h in

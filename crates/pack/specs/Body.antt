@@ -5,7 +5,7 @@ use Prim.Native.Nat.{ℕ, _+_, _*_, _-_, _/_}
 use lib.ListN.{length, getD, drop}
 use Rattle.definition.specs.Little.{le}
 use Rattle.definition.specs.Theory.{words}
-use Rattle.definition.specs.Pack.{Symbol, Node, Step, Goal, Result, Cut}
+use Rattle.definition.specs.Pack.{Symbol, Node, Step, Goal, Result, Cut, Abstract}
 use Rattle.catalog.specs.Place.{Place, noPlace, bodyAt}
 
 -- the body of record i of these
@@ -41,6 +41,11 @@ resultIn body = record { step = le 4 body 0; name = drop 4 body }
 unfoldable pub cutIn : List ℕ → Cut
 unfolding le words
 cutIn body = record { predicate = le 4 body 0; outputs = words ((length body - 4) / 4) (drop 4 body) }
+
+-- 9 abstract: constructor, position
+unfoldable pub abstractIn : List ℕ → Abstract
+unfolding le
+abstractIn body = record { constructor = le 4 body 0; position = le 4 body 4 }
 
 -- a predicate `P` of one input of sort 1; node 5 over the nodes 1 and 258; a step by rule 3 to node 4 from step 2
 symbol : symbolIn (255 ∷ 255 ∷ 255 ∷ 255 ∷ 1 ∷ 0 ∷ 1 ∷ 0 ∷ 0 ∷ 0 ∷ 80 ∷ []) ≡ record { output = 4294967295; inputs = 1 ∷ []; name = 80 ∷ [] }

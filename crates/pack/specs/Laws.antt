@@ -1,7 +1,7 @@
 -- Numbers in a record's body are numbers in the pack.
-use mathlib.Core.Path.{_≡_, refl, sym, ap, _∙_}
+use mathlib.Core.Path.{_≡_, refl, sym, ap, ap₂, _∙_}
 use mathlib.Core.List.{List}
-use Prim.Native.Nat.{ℕ, zero, suc, _+_, _*_, _≤_, _<_}
+use Prim.Native.Nat.{ℕ, zero, suc, _+_, _*_, _-_, _≤_, _<_}
 use native.Mathlib.Omega.{arith}
 use lib.ListN.{length, getD, take, drop}
 use lib.Seq.{getD-take}
@@ -9,7 +9,7 @@ use Rattle.definition.specs.Little.{le}
 use Rattle.definition.specs.Theory.{words}
 use Rattle.base.specs.Part.{part, length-part}
 use Rattle.frame.specs.Row.{le-drop, word-at}
-use Rattle.catalog.specs.Place.{Place, noPlace, bodyAt, endOf, Framed}
+use Rattle.catalog.specs.Place.{Place, noPlace, bodyAt, endOf, keyAt, Framed}
 use Rattle.catalog.specs.Whole.{recordsOf, Cataloged, record-framed}
 use Rattle.catalog.specs.declared.whole.Catalog.{Catalog}
 use Rattle.pack.specs.Body.{bodyOf}
@@ -43,7 +43,7 @@ unfolding bodyAt
 body-le bytes p n i F h = le-part n (p .at + 6) (le 4 bytes (p .at)) bytes i (omega (arith, length-body bytes p F))
 
 -- ---- the same of record i of a kind
-module _ (bytes work : List ℕ) (c : Catalog) (k i : ℕ) (C : Cataloged bytes work c) (h : k < 8) (l : i < length (recordsOf work c k)) where
+module _ (bytes work : List ℕ) (c : Catalog) (k i : ℕ) (C : Cataloged bytes work c) (h : k < 9) (l : i < length (recordsOf work c k)) where
   abbrev place : Place
   place = getD (recordsOf work c k) i noPlace
 
@@ -55,3 +55,10 @@ module _ (bytes work : List ℕ) (c : Catalog) (k i : ℕ) (C : Cataloged bytes 
 
   pub record-le : (n off at : ℕ) → at ≡ place .at → off + n ≤ length (bodyOf bytes (recordsOf work c k) i) → le n bytes (at + 6 + off) ≡ le n (bodyOf bytes (recordsOf work c k) i) off
   record-le n off at e m = ap (λ (x : ℕ). le n bytes (x + 6 + off)) e ∙ sym (body-le bytes place n off (record-framed bytes work c k i C h l) m)
+
+  pub record-end : (at end : ℕ) → at ≡ place .at → end ≡ endOf bytes at → end ≡ endOf bytes (place .at)
+  record-end at end e f = f ∙ ap (endOf bytes) e
+
+  pub record-key : (from end : ℕ) → from ≡ place .from → end ≡ endOf bytes (place .at) → take (end - from) (drop from bytes) ≡ keyAt bytes place
+  unfolding keyAt part
+  record-key from end e f = ap₂ (λ (x y : ℕ). take (y - x) (drop x bytes)) e f

@@ -7,14 +7,14 @@ use native.Mathlib.Decide.{ℕ-discrete}
 use lib.ListN.{length, getD, drop, length-map, length-append, List·getD-append}
 use lib.Seq.{getD-at}
 use Rattle.definition.specs.Little.{le}
-use Rattle.definition.specs.Pack.{Rule, Pack, noSymbol, noRule, noNode, noStep, symbolOf, nodeOf, stepOf, withSort, withSymbol, withRule, withNode, withStep, withGoal, withResult, withCut}
+use Rattle.definition.specs.Pack.{Rule, Pack, empty, noSymbol, noRule, noNode, noStep, symbolOf, ruleOf, nodeOf, stepOf, withSort, withSymbol, withRule, withNode, withStep, withGoal, withResult, withCut, withAbstract}
 use Rattle.definition.specs.Certificate.{count}
 use Rattle.definition.specs.Theory.{words}
 use Rattle.definition.specs.Laws.Prefix.{termWords, termsWords}
 use Rattle.definition.specs.Verdict.{noGoal, noResult}
-use Rattle.definition.specs.Good.{noCut}
+use Rattle.definition.specs.Good.{noCut, noAbstract}
 use Rattle.catalog.specs.Place.{Place, noPlace, keyAt, bodyAt}
-use Rattle.pack.specs.Body.{bodyOf, symbolIn, nodeIn, stepIn, goalIn, resultIn, cutIn}
+use Rattle.pack.specs.Body.{bodyOf, symbolIn, nodeIn, stepIn, goalIn, resultIn, cutIn, abstractIn}
 
 -- ---- things read from places, one by one
 pub record Listed {A : Type 0} (f : Place → A) (Form : Place → Type 0) (xs : List A) (ps : List Place) : Type 0 where
@@ -51,6 +51,10 @@ listed-more f Form xs ps qs p L e F =
     subst (Listed f Form (xs ++ (f p ∷ []))) (sym e)
     (record { are = ap (λ (ys : List _). ys ++ (f p ∷ [])) (L .are) ∙ sym (map-more f ps p); form = each-more Form ps p (L .form) F })
 
+-- nothing, at no place
+listed-none : {A : Type 0} (f : Place → A) (Form : Place → Type 0) (ps : List Place) → ps ≡ [] → Listed f Form [] ps
+listed-none f Form ps e = subst (Listed f Form []) (sym e) (record { are = refl; form = λ i h. absurd (omega arith) })
+
 -- ---- each kind's form: its fields fit its body, and its key is what must be given once
 abbrev pub SymbolForm : List ℕ → Place → Type 0
 SymbolForm bytes p = (6 + 4 * le 2 (bodyAt bytes p) 4 ≤ length (bodyAt bytes p)) × (keyAt bytes p ≡ symbolIn (bodyAt bytes p) .name) × (le 2 (bodyAt bytes p) 4 ≤ 16)
@@ -67,12 +71,19 @@ GoalForm bytes p = (4 ≤ length (bodyAt bytes p)) × (keyAt bytes p ≡ drop 4 
 abbrev pub CutForm : List ℕ → Place → Type 0
 CutForm bytes p = 4 ≤ length (bodyAt bytes p)
 
+abbrev pub AbstractForm : List ℕ → Place → Type 0
+AbstractForm bytes p = 8 ≤ length (bodyAt bytes p)
+
+-- a rule's prefix words: those of its premises, and of its conclusion
+abbrev pub ruleWords : Rule → List ℕ
+ruleWords r = termsWords (r .premises) ++ termWords (r .conclusion)
+
 -- a rule's body: its counts, the variables' sorts, its terms' words, its name
 pub record RuleIn (bytes : List ℕ) (p : Place) (r : Rule) : Type 0 where
   pub vars : r .vars ≡ words (le 2 (bodyAt bytes p) 0) (drop 4 (bodyAt bytes p))
   pub premises : count (r .premises) ≡ le 2 (bodyAt bytes p) 2
-  pub terms : words (length (termsWords (r .premises) ++ termWords (r .conclusion))) (drop (4 + 4 * le 2 (bodyAt bytes p) 0) (bodyAt bytes p)) ≡ termsWords (r .premises) ++ termWords (r .conclusion)
-  pub room : 4 + 4 * le 2 (bodyAt bytes p) 0 + 4 * length (termsWords (r .premises) ++ termWords (r .conclusion)) ≤ length (bodyAt bytes p)
+  pub terms : words (length (ruleWords r)) (drop (4 + 4 * le 2 (bodyAt bytes p) 0) (bodyAt bytes p)) ≡ ruleWords r
+  pub room : 4 + 4 * le 2 (bodyAt bytes p) 0 + 4 * length (ruleWords r) ≤ length (bodyAt bytes p)
   pub key : keyAt bytes p ≡ r .name
 
 pub record RulesIn (bytes : List ℕ) (rules : List Rule) (ps : List Place) : Type 0 where
@@ -105,6 +116,7 @@ pub record Reads (bytes : List ℕ) (rs : ℕ → List Place) (P : Pack) : Type 
   pub goals : Listed (λ p. goalIn (bodyAt bytes p)) (GoalForm bytes) (P .goals) (rs 5)
   pub results : Listed (λ p. resultIn (bodyAt bytes p)) (GoalForm bytes) (P .results) (rs 6)
   pub cuts : Listed (λ p. cutIn (bodyAt bytes p)) (CutForm bytes) (P .cuts) (rs 7)
+  pub abstracts : Listed (λ p. abstractIn (bodyAt bytes p)) (AbstractForm bytes) (P .abstracts) (rs 8)
 
 module _ (bytes : List ℕ) (rs : ℕ → List Place) (P : Pack) (R : Reads bytes rs P) where
   -- ---- as many of each kind as there are places
@@ -129,6 +141,9 @@ module _ (bytes : List ℕ) (rs : ℕ → List Place) (P : Pack) (R : Reads byte
   pub length-cuts : length (P .cuts) ≡ length (rs 7)
   length-cuts = listed-length _ _ (P .cuts) (rs 7) (R .cuts)
 
+  pub length-abstracts : length (P .abstracts) ≡ length (rs 8)
+  length-abstracts = listed-length _ _ (P .abstracts) (rs 8) (R .abstracts)
+
   -- ---- each is what its record says
   pub sort-of : (i : ℕ) → i < length (rs 0) → getD (P .sorts) i [] ≡ keyAt bytes (getD (rs 0) i noPlace)
   sort-of i h = listed-at _ _ (P .sorts) (rs 0) [] i (R .sorts) h
@@ -136,6 +151,10 @@ module _ (bytes : List ℕ) (rs : ℕ → List Place) (P : Pack) (R : Reads byte
   pub symbol-of : (i : ℕ) → i < length (rs 1) → symbolOf P i ≡ symbolIn (bodyOf bytes (rs 1) i)
   unfolding symbolOf
   symbol-of i h = listed-at _ _ (P .symbols) (rs 1) noSymbol i (R .symbols) h
+
+  pub rule-of : (i : ℕ) → i < length (rs 2) → RuleIn bytes (getD (rs 2) i noPlace) (ruleOf P i)
+  unfolding ruleOf
+  rule-of i h = R .rules .each i h
 
   pub node-of : (i : ℕ) → i < length (rs 3) → nodeOf P i ≡ nodeIn (bodyOf bytes (rs 3) i)
   unfolding nodeOf
@@ -154,11 +173,28 @@ module _ (bytes : List ℕ) (rs : ℕ → List Place) (P : Pack) (R : Reads byte
   pub cut-of : (i : ℕ) → i < length (rs 7) → getD (P .cuts) i noCut ≡ cutIn (bodyOf bytes (rs 7) i)
   cut-of i h = listed-at _ _ (P .cuts) (rs 7) noCut i (R .cuts) h
 
+  pub abstract-of : (i : ℕ) → i < length (rs 8) → getD (P .abstracts) i noAbstract ≡ abstractIn (bodyOf bytes (rs 8) i)
+  abstract-of i h = listed-at _ _ (P .abstracts) (rs 8) noAbstract i (R .abstracts) h
+
+-- no record makes the empty pack
+pub read-none : (bytes : List ℕ) (rs : ℕ → List Place) → ((k : ℕ) → k < 9 → rs k ≡ []) → Reads bytes rs empty
+read-none bytes rs none = record {
+  sorts = listed-none _ _ (rs 0) (none 0 (omega arith));
+  symbols = listed-none _ _ (rs 1) (none 1 (omega arith));
+  rules = record { many = sym (ap length (none 2 (omega arith))); each = λ i h. absurd (omega (arith, ap length (none 2 (omega arith)))) };
+  nodes = listed-none _ _ (rs 3) (none 3 (omega arith));
+  steps = listed-none _ _ (rs 4) (none 4 (omega arith));
+  goals = listed-none _ _ (rs 5) (none 5 (omega arith));
+  results = listed-none _ _ (rs 6) (none 6 (omega arith));
+  cuts = listed-none _ _ (rs 7) (none 7 (omega arith));
+  abstracts = listed-none _ _ (rs 8) (none 8 (omega arith));
+}
+
 -- ---- one record more
 -- the places of kind k have p behind them, the others are as they were
 pub record OneMore (rs rs′ : ℕ → List Place) (k : ℕ) (p : Place) : Type 0 where
   pub more : rs′ k ≡ rs k ++ (p ∷ [])
-  pub same : (j : ℕ) → j < 8 → (j ≡ k → ⊥) → rs′ j ≡ rs j
+  pub same : (j : ℕ) → j < 9 → (j ≡ k → ⊥) → rs′ j ≡ rs j
 
 module _ (bytes : List ℕ) (rs rs′ : ℕ → List Place) (P : Pack) (R : Reads bytes rs P) (p : Place) where
   -- a kind whose places are as they were
@@ -179,6 +215,7 @@ module _ (bytes : List ℕ) (rs rs′ : ℕ → List Place) (P : Pack) (R : Read
     goals = kept _ _ _ 5 (M .same 5 (omega arith) (omega arith)) (R .goals);
     results = kept _ _ _ 6 (M .same 6 (omega arith) (omega arith)) (R .results);
     cuts = kept _ _ _ 7 (M .same 7 (omega arith) (omega arith)) (R .cuts);
+    abstracts = kept _ _ _ 8 (M .same 8 (omega arith) (omega arith)) (R .abstracts);
   }
 
   pub read-symbol : OneMore rs rs′ 1 p → SymbolForm bytes p → Reads bytes rs′ (withSymbol P (symbolIn (bodyAt bytes p)))
@@ -192,6 +229,7 @@ module _ (bytes : List ℕ) (rs rs′ : ℕ → List Place) (P : Pack) (R : Read
     goals = kept _ _ _ 5 (M .same 5 (omega arith) (omega arith)) (R .goals);
     results = kept _ _ _ 6 (M .same 6 (omega arith) (omega arith)) (R .results);
     cuts = kept _ _ _ 7 (M .same 7 (omega arith) (omega arith)) (R .cuts);
+    abstracts = kept _ _ _ 8 (M .same 8 (omega arith) (omega arith)) (R .abstracts);
   }
 
   pub read-node : OneMore rs rs′ 3 p → NodeForm bytes p → Reads bytes rs′ (withNode P (nodeIn (bodyAt bytes p)))
@@ -205,6 +243,7 @@ module _ (bytes : List ℕ) (rs rs′ : ℕ → List Place) (P : Pack) (R : Read
     goals = kept _ _ _ 5 (M .same 5 (omega arith) (omega arith)) (R .goals);
     results = kept _ _ _ 6 (M .same 6 (omega arith) (omega arith)) (R .results);
     cuts = kept _ _ _ 7 (M .same 7 (omega arith) (omega arith)) (R .cuts);
+    abstracts = kept _ _ _ 8 (M .same 8 (omega arith) (omega arith)) (R .abstracts);
   }
 
   pub read-step : OneMore rs rs′ 4 p → StepForm bytes p → Reads bytes rs′ (withStep P (stepIn (bodyAt bytes p)))
@@ -218,6 +257,7 @@ module _ (bytes : List ℕ) (rs rs′ : ℕ → List Place) (P : Pack) (R : Read
     goals = kept _ _ _ 5 (M .same 5 (omega arith) (omega arith)) (R .goals);
     results = kept _ _ _ 6 (M .same 6 (omega arith) (omega arith)) (R .results);
     cuts = kept _ _ _ 7 (M .same 7 (omega arith) (omega arith)) (R .cuts);
+    abstracts = kept _ _ _ 8 (M .same 8 (omega arith) (omega arith)) (R .abstracts);
   }
 
   pub read-goal : OneMore rs rs′ 5 p → GoalForm bytes p → Reads bytes rs′ (withGoal P (goalIn (bodyAt bytes p)))
@@ -231,6 +271,7 @@ module _ (bytes : List ℕ) (rs rs′ : ℕ → List Place) (P : Pack) (R : Read
     goals = listed-more _ _ _ _ _ p (R .goals) (M .more) F;
     results = kept _ _ _ 6 (M .same 6 (omega arith) (omega arith)) (R .results);
     cuts = kept _ _ _ 7 (M .same 7 (omega arith) (omega arith)) (R .cuts);
+    abstracts = kept _ _ _ 8 (M .same 8 (omega arith) (omega arith)) (R .abstracts);
   }
 
   pub read-result : OneMore rs rs′ 6 p → GoalForm bytes p → Reads bytes rs′ (withResult P (resultIn (bodyAt bytes p)))
@@ -244,6 +285,7 @@ module _ (bytes : List ℕ) (rs rs′ : ℕ → List Place) (P : Pack) (R : Read
     goals = kept _ _ _ 5 (M .same 5 (omega arith) (omega arith)) (R .goals);
     results = listed-more _ _ _ _ _ p (R .results) (M .more) F;
     cuts = kept _ _ _ 7 (M .same 7 (omega arith) (omega arith)) (R .cuts);
+    abstracts = kept _ _ _ 8 (M .same 8 (omega arith) (omega arith)) (R .abstracts);
   }
 
   pub read-cut : OneMore rs rs′ 7 p → CutForm bytes p → Reads bytes rs′ (withCut P (cutIn (bodyAt bytes p)))
@@ -257,6 +299,21 @@ module _ (bytes : List ℕ) (rs rs′ : ℕ → List Place) (P : Pack) (R : Read
     goals = kept _ _ _ 5 (M .same 5 (omega arith) (omega arith)) (R .goals);
     results = kept _ _ _ 6 (M .same 6 (omega arith) (omega arith)) (R .results);
     cuts = listed-more _ _ _ _ _ p (R .cuts) (M .more) F;
+    abstracts = kept _ _ _ 8 (M .same 8 (omega arith) (omega arith)) (R .abstracts);
+  }
+
+  pub read-abstract : OneMore rs rs′ 8 p → AbstractForm bytes p → Reads bytes rs′ (withAbstract P (abstractIn (bodyAt bytes p)))
+  unfolding withAbstract
+  read-abstract M F = record {
+    sorts = kept _ _ _ 0 (M .same 0 (omega arith) (omega arith)) (R .sorts);
+    symbols = kept _ _ _ 1 (M .same 1 (omega arith) (omega arith)) (R .symbols);
+    rules = kept-rules _ (M .same 2 (omega arith) (omega arith)) (R .rules);
+    nodes = kept _ _ _ 3 (M .same 3 (omega arith) (omega arith)) (R .nodes);
+    steps = kept _ _ _ 4 (M .same 4 (omega arith) (omega arith)) (R .steps);
+    goals = kept _ _ _ 5 (M .same 5 (omega arith) (omega arith)) (R .goals);
+    results = kept _ _ _ 6 (M .same 6 (omega arith) (omega arith)) (R .results);
+    cuts = kept _ _ _ 7 (M .same 7 (omega arith) (omega arith)) (R .cuts);
+    abstracts = listed-more _ _ _ _ _ p (R .abstracts) (M .more) F;
   }
 
   pub read-rule : (r : Rule) → OneMore rs rs′ 2 p → RuleIn bytes p r → Reads bytes rs′ (withRule P r)
@@ -270,4 +327,5 @@ module _ (bytes : List ℕ) (rs rs′ : ℕ → List Place) (P : Pack) (R : Read
     goals = kept _ _ _ 5 (M .same 5 (omega arith) (omega arith)) (R .goals);
     results = kept _ _ _ 6 (M .same 6 (omega arith) (omega arith)) (R .results);
     cuts = kept _ _ _ 7 (M .same 7 (omega arith) (omega arith)) (R .cuts);
+    abstracts = kept _ _ _ 8 (M .same 8 (omega arith) (omega arith)) (R .abstracts);
   }

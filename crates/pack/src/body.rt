@@ -11,7 +11,7 @@ ghost use Rattle.pack.specs.Body.{bodyOf};
 
 // How long the body of record `i` of a kind is.
 pub fn body_len(pack: &[u8], work: &[u32], c: Catalog, kind: usize, i: usize) -> usize
-    requires { ⌜ Cataloged (now pack) (now work) c × (kind < 8) × (i < length (recordsOf (now work) c kind)) ⌝ }
+    requires { ⌜ Cataloged (now pack) (now work) c × (kind < 9) × (i < length (recordsOf (now work) c kind)) ⌝ }
     ensures { λ r. ⌜ r ≡ length (bodyOf (now (pack .entry)) (recordsOf (now (work .entry)) c kind) i) ⌝ }
 {
     let at = c.place(pack, work, kind, i);
@@ -20,7 +20,7 @@ pub fn body_len(pack: &[u8], work: &[u32], c: Catalog, kind: usize, i: usize) ->
 
 // The two bytes at `off` of it.
 pub fn body_half(pack: &[u8], work: &[u32], c: Catalog, kind: usize, i: usize, off: usize) -> u32
-    requires { ⌜ Cataloged (now pack) (now work) c × (kind < 8) × (i < length (recordsOf (now work) c kind)) × (off + 2 ≤ length (bodyOf (now pack) (recordsOf (now work) c kind) i)) ⌝ }
+    requires { ⌜ Cataloged (now pack) (now work) c × (kind < 9) × (i < length (recordsOf (now work) c kind)) × (off + 2 ≤ length (bodyOf (now pack) (recordsOf (now work) c kind) i)) ⌝ }
     ensures { λ r. ⌜ r ≡ le 2 (bodyOf (now (pack .entry)) (recordsOf (now (work .entry)) c kind) i) off ⌝ }
 {
     let at = c.place(pack, work, kind, i);
@@ -29,7 +29,7 @@ pub fn body_half(pack: &[u8], work: &[u32], c: Catalog, kind: usize, i: usize, o
 
 // The four bytes at `off` of it.
 pub fn body_word(pack: &[u8], work: &[u32], c: Catalog, kind: usize, i: usize, off: usize) -> u32
-    requires { ⌜ Cataloged (now pack) (now work) c × (kind < 8) × (i < length (recordsOf (now work) c kind)) × (off + 4 ≤ length (bodyOf (now pack) (recordsOf (now work) c kind) i)) ⌝ }
+    requires { ⌜ Cataloged (now pack) (now work) c × (kind < 9) × (i < length (recordsOf (now work) c kind)) × (off + 4 ≤ length (bodyOf (now pack) (recordsOf (now work) c kind) i)) ⌝ }
     ensures { λ r. ⌜ r ≡ le 4 (bodyOf (now (pack .entry)) (recordsOf (now (work .entry)) c kind) i) off ⌝ }
 {
     let at = c.place(pack, work, kind, i);

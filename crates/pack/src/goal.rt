@@ -1,11 +1,13 @@
 // Goals and results: what each says in the parsed pack.
 use crate::body::body_word;
+use crate::name::goal_name;
+use catalog::region::Sought;
 use catalog::whole::Catalog;
 ghost use Prim.Native.Nat.{_<_};
 ghost use lib.ListN.{length, getD};
 ghost use Rattle.definition.specs.Verdict.{noGoal, noResult};
 ghost use Rattle.catalog.specs.Whole.{recordsOf};
-ghost use Rattle.pack.specs.Says.{Readable, OfPack};
+ghost use Rattle.pack.specs.Says.{Readable, OfPack, ResultOf};
 
 // The judgment of goal `i`, a node.
 pub fn goal_judgment(pack: &[u8], work: &[u32], c: Catalog, i: usize) -> u32
@@ -13,6 +15,15 @@ pub fn goal_judgment(pack: &[u8], work: &[u32], c: Catalog, i: usize) -> u32
     ensures { λ r. ⌜ OfPack (now (pack .entry)) (now (work .entry)) c (λ P. getD (P .goals) i noGoal .judgment) r ⌝ }
 {
     body_word(pack, work, c, 5, i, 0)
+}
+
+// The result that has the name of goal `g`.
+pub fn goal_result(pack: &[u8], work: &[u32], c: Catalog, g: usize) -> Sought
+    requires { ⌜ Readable (now pack) (now work) c × (g < length (recordsOf (now work) c 5)) ⌝ }
+    ensures { λ r. ⌜ ResultOf (now (pack .entry)) (now (work .entry)) c g r ⌝ }
+{
+    let name = goal_name(pack, work, c, g);
+    c.find(pack, work, 6, name)
 }
 
 // The step of result `i`.

@@ -1,10 +1,3 @@
-// The pack's records taken up one by one.
-pub mod abstracted;
-pub mod goal;
-pub mod node;
-pub mod result;
-pub mod rule;
-pub mod sort;
-pub mod step;
-pub mod symbol;
-pub mod taken;
+// The pack read: its records one behind the other, each taken up into the tables in work.
+pub mod parsed;
+pub mod walk;

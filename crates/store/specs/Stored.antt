@@ -9,7 +9,7 @@ use Rattle.definition.specs.Laws.Store.{StoreOnce}
 use Rattle.base.specs.Part.{part}
 use Rattle.base.specs.Probe.{Table, Passed}
 use Rattle.base.specs.Hash.{hashOf}
-use Rattle.store.specs.Words.{keyOf, nodeOf, start, Begins}
+use Rattle.store.specs.Words.{keyOf, nodeWith, start, Begins}
 use Rattle.store.specs.declared.nodes.Store.{Store}
 use Rattle.store.specs.declared.nodes.Slot.{Slot}
 use Rattle.store.specs.declared.nodes.Slot.the-variants.{Found, Free}
@@ -84,11 +84,11 @@ written s words = patternWords s ++ drop (length (patternWords s)) words
 -- words are more than there are
 abbrev pub Answer : List ℕ → List ℕ → List ℕ → List ℕ → Store → List ℕ → Interned → Type 0
 Answer index words index′ words′ st key (Id p st′) =
-    (p .0 ≡ intern (nodes words st) (nodeOf key) .number)
-    × (nodes words′ st′ ≡ intern (nodes words st) (nodeOf key) .store)
-    × (words′ ≡ written (intern (nodes words st) (nodeOf key) .store) words)
+    (p .0 ≡ intern (nodes words st) (nodeWith key) .number)
+    × (nodes words′ st′ ≡ intern (nodes words st) (nodeWith key) .store)
+    × (words′ ≡ written (intern (nodes words st) (nodeWith key) .store) words)
     × Stored index′ words′ st′
-Answer index words index′ words′ st key Short = (length words < length (patternWords (intern (nodes words st) (nodeOf key) .store))) × (index′ ≡ index) × (words′ ≡ words)
+Answer index words index′ words′ st key Short = (length words < length (patternWords (intern (nodes words st) (nodeWith key) .store))) × (index′ ≡ index) × (words′ ≡ words)
 
 -- ---- between the store's own functions
 pub record Searching (slots index words : List ℕ) (st : Store) (h : ℕ) (key : List ℕ) : Type 0 where
@@ -99,8 +99,8 @@ pub record Searching (slots index words : List ℕ) (st : Store) (h : ℕ) (key 
   pub some : 0 < length key
 
 abbrev pub Probed : List ℕ → List Node → ℕ → List ℕ → Slot → Type 0
-Probed slots s h key (Found t) = (t < length slots) × (0 < getD slots t 0) × (nodeAt s (getD slots t 0 - 1) ≡ nodeOf key)
-Probed slots s h key (Free t) = Passed slots (nodeAt s) (nodeOf key) h t × (getD slots t 0 ≡ 0)
+Probed slots s h key (Found t) = (t < length slots) × (0 < getD slots t 0) × (nodeAt s (getD slots t 0 - 1) ≡ nodeWith key)
+Probed slots s h key (Free t) = Passed slots (nodeAt s) (nodeWith key) h t × (getD slots t 0 ≡ 0)
 
 -- there is room for the key
 pub record Fits (index words : List ℕ) (st : Store) (key : List ℕ) : Type 0 where
@@ -115,13 +115,13 @@ longer st k = record { len = st .len + 1; used = st .used + 1 + k; hashes = st .
 pub record Appended (index words index′ words′ : List ℕ) (st : Store) (key : List ℕ) (st′ : Store) : Type 0 where
   pub state : st′ ≡ longer st (length key)
   pub index-is : index′ ≡ set index (st .len) (st .used)
-  pub words-are : words′ ≡ written (nodes words st ++ (nodeOf key ∷ [])) words
+  pub words-are : words′ ≡ written (nodes words st ++ (nodeWith key ∷ [])) words
 
 pub record Adding (index words : List ℕ) (st : Store) (key : List ℕ) (t : ℕ) : Type 0 where
   pub stored : Stored index words st
   pub some : 0 < length key
   pub fits : st .used + 1 + length key ≤ length words
-  pub passed : Passed (slotsIn index words (st .hashes)) (nodeAt (nodes words st)) (nodeOf key) (hashOf (st .hashes) key) t
+  pub passed : Passed (slotsIn index words (st .hashes)) (nodeAt (nodes words st)) (nodeWith key) (hashOf (st .hashes) key) t
   pub free : getD (slotsIn index words (st .hashes)) t 0 ≡ 0
 
 pub record Rebuilding (index words : List ℕ) (st : Store) (s : List Node) : Type 0 where
@@ -130,6 +130,6 @@ pub record Rebuilding (index words : List ℕ) (st : Store) (s : List Node) : Ty
   pub ranged : Ranged words (st .hashes) (length s)
 
 pub record Added (words index′ words′ : List ℕ) (st : Store) (key : List ℕ) (st′ : Store) : Type 0 where
-  pub nodes-are : nodes words′ st′ ≡ nodes words st ++ (nodeOf key ∷ [])
-  pub words-are : words′ ≡ written (nodes words st ++ (nodeOf key ∷ [])) words
+  pub nodes-are : nodes words′ st′ ≡ nodes words st ++ (nodeWith key ∷ [])
+  pub words-are : words′ ≡ written (nodes words st ++ (nodeWith key ∷ [])) words
   pub stored : Stored index′ words′ st′

@@ -17,7 +17,7 @@ use Rattle.base.specs.Same.{same-false}
 use Rattle.base.specs.Probe.{Table, Ran, Passed, taken, grown, absent, table-empty}
 use Rattle.base.specs.declared.id.Pattern.{Pattern}
 use Rattle.base.specs.Hash.{hashOf}
-use Rattle.store.specs.Words.{keyOf, nodeOf, key-of, node-of, key-args, start, start-more, start-last, words-append, words-one, words-most, length-more, Begins, begins-nodes, begins-long, begins-take, stands}
+use Rattle.store.specs.Words.{keyOf, nodeWith, key-of, node-of, key-args, start, start-more, start-last, words-append, words-one, words-most, length-more, Begins, begins-nodes, begins-long, begins-take, stands}
 use Rattle.store.specs.Stored.{nodes, roomIn, slotsFor, slotsIn, hashNode, nodeAt, Enough, Placed, Entered, Stored, written, longer, Searching, Probed, Appended, Adding, Rebuilding, Added, Answer}
 use Rattle.store.specs.declared.nodes.Store.{Store}
 use Rattle.store.specs.declared.nodes.Slot.the-variants.{Found, Free}
@@ -128,12 +128,12 @@ unfolding written
 begins-written s words b =
     sym (take-append-drop (length (patternWords s)) words) ∙ ap (λ (ws : List ℕ). ws ++ drop (length (patternWords s)) words) (begins-take s words b)
 
-pub length-key : (s : List Node) (key : List ℕ) → 0 < length key → length (patternWords (s ++ (nodeOf key ∷ []))) ≡ length (patternWords s) + 1 + length key
-length-key s key h = length-more s (nodeOf key) ∙ omega (arith, key-args key)
+pub length-key : (s : List Node) (key : List ℕ) → 0 < length key → length (patternWords (s ++ (nodeWith key ∷ []))) ≡ length (patternWords s) + 1 + length key
+length-key s key h = length-more s (nodeWith key) ∙ omega (arith, key-args key)
 
 -- what appending writes
 pub append-words : (s : List Node) (words key : List ℕ) (u : ℕ) → Begins s words → u ≡ length (patternWords s) → 0 < length key → u + 1 + length key ≤ length words
-    → put (u + 1) (length key) key (set words u (length key - 1)) ≡ written (s ++ (nodeOf key ∷ [])) words
+    → put (u + 1) (length key) key (set words u (length key - 1)) ≡ written (s ++ (nodeWith key ∷ [])) words
 unfolding written
 append-words s words key u b e h fits =
     let A : List ℕ = patternWords s in
@@ -142,21 +142,21 @@ append-words s words key u b e h fits =
     ap (λ (k : ℕ). take k (set words u v)) (add-one u) ∙ take-suc-set words u v (omega arith) ∙ ap (λ (ws : List ℕ). ws ++ (v ∷ [])) (ap (λ (k : ℕ). take k words) e ∙ begins-take s words b) in
     let back : drop (length key) (drop (u + 1) (set words u v)) ≡ drop (u + 1 + length key) words =
     ap (drop (length key)) (drop-set-lt (u + 1) words u v (omega arith)) ∙ drop-drop (length key) (u + 1) words in
-    let all : patternWords (s ++ (nodeOf key ∷ [])) ≡ A ++ (v ∷ key) =
-    words-append s (nodeOf key ∷ []) ∙ ap (λ (ws : List ℕ). A ++ ws) (words-one (nodeOf key) ∙ ap (λ (k : ℕ). k ∷ keyOf (nodeOf key)) (key-args key) ∙ ap (λ (ws : List ℕ). v ∷ ws) (key-of key h)) in
-    let long : length (patternWords (s ++ (nodeOf key ∷ []))) ≡ u + 1 + length key = length-key s key h ∙ omega arith in
+    let all : patternWords (s ++ (nodeWith key ∷ [])) ≡ A ++ (v ∷ key) =
+    words-append s (nodeWith key ∷ []) ∙ ap (λ (ws : List ℕ). A ++ ws) (words-one (nodeWith key) ∙ ap (λ (k : ℕ). k ∷ keyOf (nodeWith key)) (key-args key) ∙ ap (λ (ws : List ℕ). v ∷ ws) (key-of key h)) in
+    let long : length (patternWords (s ++ (nodeWith key ∷ []))) ≡ u + 1 + length key = length-key s key h ∙ omega arith in
     let rest : List ℕ = drop (u + 1 + length key) words in
     ap (λ (ws : List ℕ). ws ++ (key ++ drop (length key) (drop (u + 1) (set words u v)))) front
     ∙ ap (λ (ws : List ℕ). (A ++ (v ∷ [])) ++ (key ++ ws)) back
     ∙ append-assoc A (v ∷ []) (key ++ rest)
     ∙ sym (append-assoc A (v ∷ key) rest)
     ∙ sym (ap (λ (ws : List ℕ). ws ++ rest) all)
-    ∙ ap (λ (k : ℕ). patternWords (s ++ (nodeOf key ∷ [])) ++ drop k words) (sym long)
+    ∙ ap (λ (k : ℕ). patternWords (s ++ (nodeWith key ∷ [])) ++ drop k words) (sym long)
 
 pub placed-more : (index words : List ℕ) (st : Store) (s : List Node) (key : List ℕ) → Placed index words st s → 0 < length key → st .used + 1 + length key ≤ length words
-    → Placed (set index (st .len) (st .used)) (written (s ++ (nodeOf key ∷ [])) words) (longer st (length key)) (s ++ (nodeOf key ∷ []))
+    → Placed (set index (st .len) (st .used)) (written (s ++ (nodeWith key ∷ [])) words) (longer st (length key)) (s ++ (nodeWith key ∷ []))
 placed-more index words st s key P some fits =
-    let n = nodeOf key in
+    let n = nodeWith key in
     let k = length-key s key some in
     let f = few index words st s P in
     let w = length-written (s ++ (n ∷ [])) words (omega (arith, P .used)) in
@@ -169,14 +169,14 @@ placed-more index words st s key P some fits =
       starts = λ i h. start-at i (omega arith) (ℕ-discrete i (length s));
     }
   where
-    start-at : (i : ℕ) → i < length s + 1 → Dec (i ≡ length s) → getD (set index (st .len) (st .used)) i 0 ≡ start (s ++ (nodeOf key ∷ [])) i
+    start-at : (i : ℕ) → i < length s + 1 → Dec (i ≡ length s) → getD (set index (st .len) (st .used)) i 0 ≡ start (s ++ (nodeWith key ∷ [])) i
     start-at i h (yes e) =
         let f = few index words st s P in
         let q : st .len ≡ i = omega (arith, P .len) in
         ap (λ (k : ℕ). getD (set index k (st .used)) i 0) q ∙ getD-set-same index i (st .used) 0 (omega (arith, P .enough .wide, f, fits, P .used, words-most s))
-        ∙ P .used ∙ sym (start-last s) ∙ ap (start s) (sym e) ∙ sym (start-more s (nodeOf key) i (omega arith))
+        ∙ P .used ∙ sym (start-last s) ∙ ap (start s) (sym e) ∙ sym (start-more s (nodeWith key) i (omega arith))
     start-at i h (no d) =
-        getD-set-other index (st .len) i (st .used) 0 (omega (arith, P .len)) ∙ P .starts i (omega arith) ∙ sym (start-more s (nodeOf key) i (omega arith))
+        getD-set-other index (st .len) i (st .used) 0 (omega (arith, P .len)) ∙ P .starts i (omega arith) ∙ sym (start-more s (nodeWith key) i (omega arith))
 
 -- ---- adding the key of a search that ended at a free slot
 module _ (index words : List ℕ) (st : Store) (key : List ℕ) (t : ℕ) (A : Adding index words st key t) where
@@ -184,7 +184,7 @@ module _ (index words : List ℕ) (st : Store) (key : List ℕ) (t : ℕ) (A : A
   old = nodes words st
 
   abbrev new : List Node
-  new = nodes words st ++ (nodeOf key ∷ [])
+  new = nodes words st ++ (nodeWith key ∷ [])
 
   abbrev slots : List ℕ
   slots = slotsIn index words (st .hashes)
@@ -199,7 +199,7 @@ module _ (index words : List ℕ) (st : Store) (key : List ℕ) (t : ℕ) (A : A
   Q = placed-more index words st old key P (A .some) (A .fits)
 
   length-new : length new ≡ length old + 1
-  length-new = length-append old (nodeOf key ∷ [])
+  length-new = length-append old (nodeWith key ∷ [])
 
   -- there was room for a node more
   more-few : length old + 1 ≤ roomIn words
@@ -208,16 +208,16 @@ module _ (index words : List ℕ) (st : Store) (key : List ℕ) (t : ℕ) (A : A
   same-long : length (written new words) ≡ length words
   same-long = length-written new words (omega (arith, length-key old key (A .some), A .fits, P .used))
 
-  passed : Passed slots (nodeAt old) (nodeOf key) (hashNode (st .hashes) (nodeOf key)) t
+  passed : Passed slots (nodeAt old) (nodeWith key) (hashNode (st .hashes) (nodeWith key)) t
   passed = rw (key-of key (A .some)) (A .passed)
 
   table : Table (hashNode (st .hashes)) (set slots t (length old + 1)) (nodeAt new) (length old + 1)
   table =
-      grown (hashNode (st .hashes)) slots (nodeAt old) (length old) (E .table) (nodeOf key) t passed (A .free) (nodeAt new)
-      (λ i h. List·getD-append old (nodeOf key ∷ []) noNode i h) (getD-at old (nodeOf key) [] noNode (length old) refl)
+      grown (hashNode (st .hashes)) slots (nodeAt old) (length old) (E .table) (nodeWith key) t passed (A .free) (nodeAt new)
+      (λ i h. List·getD-append old (nodeWith key ∷ []) noNode i h) (getD-at old (nodeWith key) [] noNode (length old) refl)
 
-  pub none-alike : (i : ℕ) → i < length old → nodeAt old i ≡ nodeOf key → ⊥
-  none-alike = absent (hashNode (st .hashes)) slots (nodeAt old) (length old) (E .table) (nodeOf key) t passed (A .free)
+  pub none-alike : (i : ℕ) → i < length old → nodeAt old i ≡ nodeWith key → ⊥
+  none-alike = absent (hashNode (st .hashes)) slots (nodeAt old) (length old) (E .table) (nodeWith key) t passed (A .free)
 
   once : StoreOnce new
   once i j h k e = table .once i j (omega (arith, length-new)) (omega (arith, length-new)) e
@@ -296,11 +296,11 @@ module _ (slots index words : List ℕ) (st : Store) (h : ℕ) (key : List ℕ) 
   pub search-id : (t : ℕ) → t < length slots → getD slots t 0 ≤ length (nodes words st)
   search-id t l = rw (S .slots-are) (S .stored .table .ids t (rw (S .slots-are) at l))
 
-  pub unlike : (n : Node) (r : Bool) → r ≡ same (keyOf n) key → r ≡ false → n ≡ nodeOf key → ⊥
+  pub unlike : (n : Node) (r : Bool) → r ≡ same (keyOf n) key → r ≡ false → n ≡ nodeWith key → ⊥
   unlike n r e f q = same-false (keyOf n) key (sym e ∙ f) (ap keyOf q ∙ key-of key (S .some))
 
-  pub alike : (n : Node) (r : Bool) → r ≡ same (keyOf n) key → r ≡ true → n ≡ nodeOf key
-  alike n r e f = sym (node-of n) ∙ ap nodeOf (same-true (keyOf n) key (sym e ∙ f))
+  pub alike : (n : Node) (r : Bool) → r ≡ same (keyOf n) key → r ≡ true → n ≡ nodeWith key
+  alike n r e f = sym (node-of n) ∙ ap nodeWith (same-true (keyOf n) key (sym e ∙ f))
 
 -- ---- what interning answers
 module _ (index words : List ℕ) (st : Store) (key : List ℕ) (E : Stored index words st) (some : 0 < length key) where
@@ -312,8 +312,8 @@ module _ (index words : List ℕ) (st : Store) (key : List ℕ) (E : Stored inde
       let e = slot-at index words st s (length s) E t (omega (arith, F .0, length-slots index words st s (length s) E)) in
       let i : ℕ = getD index (roomIn words + t) 0 - 1 in
       let l : i < length s = omega (arith, E .table .ids t (F .0), F .1) in
-      let q : nodeAt s i ≡ nodeOf key = rw e at (F .2) in
-      let r = intern-old s (nodeOf key) i (E .once) l q in
+      let q : nodeAt s i ≡ nodeWith key = rw e at (F .2) in
+      let r = intern-old s (nodeWith key) i (E .once) l q in
       let b = begins-written s words (E .placed .begins) in (
         omega (arith, F .0, length-slots index words st s (length s) E),
         omega (arith, F .1),
@@ -324,8 +324,8 @@ module _ (index words : List ℕ) (st : Store) (key : List ℕ) (E : Stored inde
   pub short : (t : ℕ) → Probed (slotsIn index words (st .hashes)) (nodes words st) (hashOf (st .hashes) key) key (Free t) → length words < st .used + 1 + length key → Answer index words index words st key Short
   short t F h =
       let s = nodes words st in
-      let p : Passed (slotsIn index words (st .hashes)) (nodeAt s) (nodeOf key) (hashNode (st .hashes) (nodeOf key)) t = rw (key-of key some) (F .0) in
-      let r = intern-new s (nodeOf key) (absent (hashNode (st .hashes)) (slotsIn index words (st .hashes)) (nodeAt s) (length s) (E .table) (nodeOf key) t p (F .1)) in
+      let p : Passed (slotsIn index words (st .hashes)) (nodeAt s) (nodeWith key) (hashNode (st .hashes) (nodeWith key)) t = rw (key-of key some) (F .0) in
+      let r = intern-new s (nodeWith key) (absent (hashNode (st .hashes)) (slotsIn index words (st .hashes)) (nodeAt s) (length s) (E .table) (nodeWith key) t p (F .1)) in
       let k = length-key s key some in
       (rw r (omega (arith, E .placed .used)), refl, refl)
 
@@ -333,7 +333,7 @@ module _ (index words : List ℕ) (st : Store) (key : List ℕ) (E : Stored inde
   pub added : (t : ℕ) → Adding index words st key t → (index′ words′ : List ℕ) (st′ : Store) → Added words index′ words′ st key st′ → (p : Pattern) → p .0 ≡ st .len → Answer index words index′ words′ st key (Id p st′)
   added t A index′ words′ st′ D p k =
       let s = nodes words st in
-      let r = intern-new s (nodeOf key) (none-alike index words st key t A) in
+      let r = intern-new s (nodeWith key) (none-alike index words st key t A) in
       (k ∙ E .placed .len ∙ sym (ap (λ (x : Placing). x .number) r), D .nodes-are ∙ sym (ap (λ (x : Placing). x .store) r), D .words-are ∙ ap (λ (x : Placing). written (x .store) words) (sym r), D .stored)
 
 -- ---- a store without nodes

@@ -15,20 +15,20 @@ abbrev pub keyOf : Node → List ℕ
 keyOf n = n .head ∷ n .args
 
 -- the node of a key
-unfoldable pub nodeOf : List ℕ → Node
-nodeOf key = record { head = getD key 0 0; args = drop 1 key }
+unfoldable pub nodeWith : List ℕ → Node
+nodeWith key = record { head = getD key 0 0; args = drop 1 key }
 
-pub key-of : (key : List ℕ) → 0 < length key → keyOf (nodeOf key) ≡ key
-unfolding nodeOf
+pub key-of : (key : List ℕ) → 0 < length key → keyOf (nodeWith key) ≡ key
+unfolding nodeWith
 key-of [] h = absurd (omega arith)
 key-of (x ∷ xs) h = refl
 
-pub node-of : (n : Node) → nodeOf (keyOf n) ≡ n
-unfolding nodeOf
+pub node-of : (n : Node) → nodeWith (keyOf n) ≡ n
+unfolding nodeWith
 node-of n = refl
 
-pub key-args : (key : List ℕ) → length (nodeOf key .args) ≡ length key - 1
-unfolding nodeOf
+pub key-args : (key : List ℕ) → length (nodeWith key .args) ≡ length key - 1
+unfolding nodeWith
 key-args key = length-drop 1 key
 
 -- where the words of node i start

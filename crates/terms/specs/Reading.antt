@@ -20,7 +20,7 @@ use Rattle.pack.specs.Body.{bodyOf}
 use Rattle.pack.specs.Laws.{word-from}
 use Rattle.pack.specs.Reads.{Reads, length-symbols}
 use Rattle.pack.specs.Says.{arity-read}
-use Rattle.terms.specs.Terms.{symbolIn, nextIn, wantedBy, wanted-judgment, wanted-none, wanted-argument, frame-done, frame-on, frame-more, fits-variable, fits-symbol, wanted-variable, wanted-symbol}
+use Rattle.terms.specs.Terms.{frameSymbol, frameNext, wantedBy, wanted-judgment, wanted-none, wanted-argument, frame-done, frame-on, frame-more, fits-variable, fits-symbol, wanted-variable, wanted-symbol}
 use Rattle.terms.specs.declared.terms.Point.{Point}
 use Rattle.terms.specs.declared.terms.Want.{Want}
 use Rattle.terms.specs.declared.terms.Want.the-variants.{Sort, Done}
@@ -29,8 +29,8 @@ use Rattle.terms.specs.declared.terms.Want.the-variants.{Sort, Done}
 pub record Stacked (bytes : List ℕ) (rs : ℕ → List Place) (fs : List ℕ) (n : ℕ) : Type 0 where
   pub long : length fs ≡ 512
   pub few : n ≤ 256
-  pub symbol : (j : ℕ) → j < n → symbolIn fs j < length (rs 1)
-  pub next : (j : ℕ) → j < n → nextIn fs j < le 2 (bodyOf bytes (rs 1) (symbolIn fs j)) 4
+  pub symbol : (j : ℕ) → j < n → frameSymbol fs j < length (rs 1)
+  pub next : (j : ℕ) → j < n → frameNext fs j < le 2 (bodyOf bytes (rs 1) (frameSymbol fs j)) 4
 
 -- what `next_sort` answers
 pub record Wanted (bytes : List ℕ) (rs : ℕ → List Place) (fs fs′ : List ℕ) (p : Point) (s : ℕ) (q : Point) : Type 0 where
@@ -58,13 +58,13 @@ module _ (bytes : List ℕ) (rs : ℕ → List Place) (fs : List ℕ) (p : Point
   }
 
   module _ (n : ℕ) (e : p .frames ≡ n + 1) where
-    arity : (P : Pack) → Reads bytes rs P → le 2 (bodyOf bytes (rs 1) (symbolIn fs n)) 4 ≡ length (symbolOf P (symbolIn fs n) .inputs)
-    arity P R = arity-read bytes rs P R (symbolIn fs n) (S .symbol n (omega arith))
+    arity : (P : Pack) → Reads bytes rs P → le 2 (bodyOf bytes (rs 1) (frameSymbol fs n)) 4 ≡ length (symbolOf P (frameSymbol fs n) .inputs)
+    arity P R = arity-read bytes rs P R (frameSymbol fs n) (S .symbol n (omega arith))
 
     -- the last argument of the last frame
     pub last-argument : (q : Point) (s a : ℕ) → q .at ≡ p .at → q .read ≡ p .read → q .frames ≡ n → q .left ≡ p .left
-        → ((P : Pack) → Reads bytes rs P → s ≡ getD (symbolOf P (symbolIn fs n) .inputs) (nextIn fs n) 0) → ((P : Pack) → Reads bytes rs P → a ≡ length (symbolOf P (symbolIn fs n) .inputs))
-        → a ≤ nextIn fs n + 1 → Wanted bytes rs fs fs p s q
+        → ((P : Pack) → Reads bytes rs P → s ≡ getD (symbolOf P (frameSymbol fs n) .inputs) (frameNext fs n) 0) → ((P : Pack) → Reads bytes rs P → a ≡ length (symbolOf P (frameSymbol fs n) .inputs))
+        → a ≤ frameNext fs n + 1 → Wanted bytes rs fs fs p s q
     last-argument q s a at read f l sort many h = record {
       at = at;
       read = read;
@@ -73,18 +73,18 @@ module _ (bytes : List ℕ) (rs : ℕ → List Place) (fs : List ℕ) (p : Point
       wants = λ P R.
           rw (e, f, l, sort P R)
           (wanted-argument P fs n (p .left) (omega (arith, S .next n (omega arith), arity P R))
-          ∙ ap (λ (ss : List ℕ). getD (symbolOf P (symbolIn fs n) .inputs) (nextIn fs n) 0 ∷ ss) (frame-done P fs n (p .left) (omega (arith, many P R))));
+          ∙ ap (λ (ss : List ℕ). getD (symbolOf P (frameSymbol fs n) .inputs) (frameNext fs n) 0 ∷ ss) (frame-done P fs n (p .left) (omega (arith, many P R))));
     }
 
     -- one of its others
-    pub an-argument : (s a : ℕ) → ((P : Pack) → Reads bytes rs P → s ≡ getD (symbolOf P (symbolIn fs n) .inputs) (nextIn fs n) 0) → ((P : Pack) → Reads bytes rs P → a ≡ length (symbolOf P (symbolIn fs n) .inputs))
-        → (P : Pack) → Reads bytes rs P → nextIn fs n + 1 < a → Wanted bytes rs fs (set fs (2 * n + 1) (nextIn fs n + 1)) p s p
+    pub an-argument : (s a : ℕ) → ((P : Pack) → Reads bytes rs P → s ≡ getD (symbolOf P (frameSymbol fs n) .inputs) (frameNext fs n) 0) → ((P : Pack) → Reads bytes rs P → a ≡ length (symbolOf P (frameSymbol fs n) .inputs))
+        → (P : Pack) → Reads bytes rs P → frameNext fs n + 1 < a → Wanted bytes rs fs (set fs (2 * n + 1) (frameNext fs n + 1)) p s p
     an-argument s a sort many Q T h = record {
       at = refl;
       read = refl;
       frames = omega arith;
       stacked = record {
-        long = length-set fs (2 * n + 1) (nextIn fs n + 1) ∙ S .long;
+        long = length-set fs (2 * n + 1) (frameNext fs n + 1) ∙ S .long;
         few = S .few;
         symbol = λ j k. rw (symbol-same j) (S .symbol j k);
         next = λ j k. next-at j k (ℕ-discrete j n);
@@ -92,18 +92,18 @@ module _ (bytes : List ℕ) (rs : ℕ → List Place) (fs : List ℕ) (p : Point
       wants = λ P R.
           rw (e, sort P R)
           (wanted-argument P fs n (p .left) (omega (arith, S .next n (omega arith), arity P R))
-          ∙ ap (λ (ss : List ℕ). getD (symbolOf P (symbolIn fs n) .inputs) (nextIn fs n) 0 ∷ ss) (frame-on P fs n (p .left) (omega (arith, S .long, S .few))));
+          ∙ ap (λ (ss : List ℕ). getD (symbolOf P (frameSymbol fs n) .inputs) (frameNext fs n) 0 ∷ ss) (frame-on P fs n (p .left) (omega (arith, S .long, S .few))));
     }
       where
-        symbol-same : (j : ℕ) → symbolIn (set fs (2 * n + 1) (nextIn fs n + 1)) j ≡ symbolIn fs j
-        symbol-same j = getD-set-other fs (2 * n + 1) (2 * j) (nextIn fs n + 1) 0 (omega arith)
+        symbol-same : (j : ℕ) → frameSymbol (set fs (2 * n + 1) (frameNext fs n + 1)) j ≡ frameSymbol fs j
+        symbol-same j = getD-set-other fs (2 * n + 1) (2 * j) (frameNext fs n + 1) 0 (omega arith)
 
-        next-at : (j : ℕ) → j < p .frames → Dec (j ≡ n) → nextIn (set fs (2 * n + 1) (nextIn fs n + 1)) j < le 2 (bodyOf bytes (rs 1) (symbolIn (set fs (2 * n + 1) (nextIn fs n + 1)) j)) 4
+        next-at : (j : ℕ) → j < p .frames → Dec (j ≡ n) → frameNext (set fs (2 * n + 1) (frameNext fs n + 1)) j < le 2 (bodyOf bytes (rs 1) (frameSymbol (set fs (2 * n + 1) (frameNext fs n + 1)) j)) 4
         next-at j k (yes q) =
-            let v : nextIn (set fs (2 * n + 1) (nextIn fs n + 1)) j ≡ nextIn fs n + 1 = ap (λ (i : ℕ). getD (set fs (2 * n + 1) (nextIn fs n + 1)) (2 * i + 1) 0) q ∙ getD-set-same fs (2 * n + 1) (nextIn fs n + 1) 0 (omega (arith, S .long, S .few)) in
+            let v : frameNext (set fs (2 * n + 1) (frameNext fs n + 1)) j ≡ frameNext fs n + 1 = ap (λ (i : ℕ). getD (set fs (2 * n + 1) (frameNext fs n + 1)) (2 * i + 1) 0) q ∙ getD-set-same fs (2 * n + 1) (frameNext fs n + 1) 0 (omega (arith, S .long, S .few)) in
             rw (v, symbol-same j, q) (omega (arith, many Q T, arity Q T))
         next-at j k (no d) =
-            rw (symbol-same j, getD-set-other fs (2 * n + 1) (2 * j + 1) (nextIn fs n + 1) 0 (omega arith)) (S .next j k)
+            rw (symbol-same j, getD-set-other fs (2 * n + 1) (2 * j + 1) (frameNext fs n + 1) 0 (omega arith)) (S .next j k)
 
 -- ---- which words fit: what `fits_at` answers
 abbrev pub Fitting : List ℕ → (ℕ → List Place) → List ℕ → ℕ → ℕ → ℕ → Bool → Type 0
@@ -187,19 +187,19 @@ module _ (bytes : List ℕ) (rs : ℕ → List Place) (fs : List ℕ) (p : Point
     wants = λ P R. rw (f, left) (ap (λ (x : List ℕ). x ++ wantedBy P fs (p .frames) (p .left)) (wanted-symbol P w h) ∙ frame-more P fs (p .frames) (p .left) w (omega (arith, S .long)));
   }
     where
-      symbol-new : (j : ℕ) → j ≡ p .frames → symbolIn more j ≡ w
-      symbol-new j e = ap (symbolIn more) e ∙ getD-set-other (set fs (2 * p .frames) w) (2 * p .frames + 1) (2 * p .frames) 0 0 (omega arith) ∙ getD-set-same fs (2 * p .frames) w 0 (omega (arith, S .long))
+      symbol-new : (j : ℕ) → j ≡ p .frames → frameSymbol more j ≡ w
+      symbol-new j e = ap (frameSymbol more) e ∙ getD-set-other (set fs (2 * p .frames) w) (2 * p .frames + 1) (2 * p .frames) 0 0 (omega arith) ∙ getD-set-same fs (2 * p .frames) w 0 (omega (arith, S .long))
 
-      next-new : (j : ℕ) → j ≡ p .frames → nextIn more j ≡ 0
-      next-new j e = ap (nextIn more) e ∙ getD-set-same (set fs (2 * p .frames) w) (2 * p .frames + 1) 0 0 (omega (arith, S .long, length-set fs (2 * p .frames) w))
+      next-new : (j : ℕ) → j ≡ p .frames → frameNext more j ≡ 0
+      next-new j e = ap (frameNext more) e ∙ getD-set-same (set fs (2 * p .frames) w) (2 * p .frames + 1) 0 0 (omega (arith, S .long, length-set fs (2 * p .frames) w))
 
       old : (i : ℕ) → i < 2 * p .frames → getD more i 0 ≡ getD fs i 0
       old i k = getD-set-other (set fs (2 * p .frames) w) (2 * p .frames + 1) i 0 0 (omega arith) ∙ getD-set-other fs (2 * p .frames) i w 0 (omega arith)
 
-      symbol-at : (j : ℕ) → j ≤ p .frames → Dec (j ≡ p .frames) → symbolIn more j < length (rs 1)
+      symbol-at : (j : ℕ) → j ≤ p .frames → Dec (j ≡ p .frames) → frameSymbol more j < length (rs 1)
       symbol-at j k (yes e) = rw (symbol-new j e) l
       symbol-at j k (no d) = rw (old (2 * j) (omega arith)) (S .symbol j (omega arith))
 
-      next-at : (j : ℕ) → j ≤ p .frames → Dec (j ≡ p .frames) → nextIn more j < le 2 (bodyOf bytes (rs 1) (symbolIn more j)) 4
+      next-at : (j : ℕ) → j ≤ p .frames → Dec (j ≡ p .frames) → frameNext more j < le 2 (bodyOf bytes (rs 1) (frameSymbol more j)) 4
       next-at j k (yes e) = rw (next-new j e, symbol-new j e) (omega (arith, many Q T, arity-read bytes rs Q T w l))
       next-at j k (no d) = rw (old (2 * j) (omega arith), old (2 * j + 1) (omega arith)) (S .next j (omega arith))

@@ -20,16 +20,16 @@ use Rattle.definition.specs.Laws.Decide.{pass-right, stop-right, pass-within, s
 use Rattle.definition.specs.Laws.Prefix.{readAll, read-step}
 
 -- the symbol of a frame, and its next argument
-abbrev pub symbolIn : List ℕ → ℕ → ℕ
-symbolIn fs n = getD fs (2 * n) 0
+abbrev pub frameSymbol : List ℕ → ℕ → ℕ
+frameSymbol fs n = getD fs (2 * n) 0
 
-abbrev pub nextIn : List ℕ → ℕ → ℕ
-nextIn fs n = getD fs (2 * n + 1) 0
+abbrev pub frameNext : List ℕ → ℕ → ℕ
+frameNext fs n = getD fs (2 * n + 1) 0
 
 -- the sorts that n frames and `left` judgments still want, the last frame's first
 unfoldable pub wantedBy : Pack → List ℕ → ℕ → ℕ → List ℕ
 wantedBy P fs zero left = replicate left prop
-wantedBy P fs (suc n) left = drop (nextIn fs n) (symbolOf P (symbolIn fs n) .inputs) ++ wantedBy P fs n left
+wantedBy P fs (suc n) left = drop (frameNext fs n) (symbolOf P (frameSymbol fs n) .inputs) ++ wantedBy P fs n left
 
 -- only the frames in force count
 pub wanted-same : (P : Pack) (fs gs : List ℕ) (n left : ℕ) → ((j : ℕ) → j < 2 * n → getD gs j 0 ≡ getD fs j 0) → wantedBy P gs n left ≡ wantedBy P fs n left
@@ -48,26 +48,26 @@ unfolding wantedBy
 wanted-none P fs = refl
 
 -- the last frame's argument is wanted, and then the others
-pub wanted-argument : (P : Pack) (fs : List ℕ) (n left : ℕ) → nextIn fs n < length (symbolOf P (symbolIn fs n) .inputs)
-    → wantedBy P fs (n + 1) left ≡ getD (symbolOf P (symbolIn fs n) .inputs) (nextIn fs n) 0 ∷ (drop (nextIn fs n + 1) (symbolOf P (symbolIn fs n) .inputs) ++ wantedBy P fs n left)
+pub wanted-argument : (P : Pack) (fs : List ℕ) (n left : ℕ) → frameNext fs n < length (symbolOf P (frameSymbol fs n) .inputs)
+    → wantedBy P fs (n + 1) left ≡ getD (symbolOf P (frameSymbol fs n) .inputs) (frameNext fs n) 0 ∷ (drop (frameNext fs n + 1) (symbolOf P (frameSymbol fs n) .inputs) ++ wantedBy P fs n left)
 unfolding wantedBy
 wanted-argument P fs n left h =
-    rw (add-one n, add-one (nextIn fs n)) (ap (λ (l : List ℕ). l ++ wantedBy P fs n left) (drop-cons (symbolOf P (symbolIn fs n) .inputs) (nextIn fs n) 0 h))
+    rw (add-one n, add-one (frameNext fs n)) (ap (λ (l : List ℕ). l ++ wantedBy P fs n left) (drop-cons (symbolOf P (frameSymbol fs n) .inputs) (frameNext fs n) 0 h))
 
 -- it was the frame's last argument
-pub frame-done : (P : Pack) (fs : List ℕ) (n left : ℕ) → length (symbolOf P (symbolIn fs n) .inputs) ≤ nextIn fs n + 1
-    → drop (nextIn fs n + 1) (symbolOf P (symbolIn fs n) .inputs) ++ wantedBy P fs n left ≡ wantedBy P fs n left
-frame-done P fs n left h = ap (λ (l : List ℕ). l ++ wantedBy P fs n left) (drop-of-length-le (symbolOf P (symbolIn fs n) .inputs) h)
+pub frame-done : (P : Pack) (fs : List ℕ) (n left : ℕ) → length (symbolOf P (frameSymbol fs n) .inputs) ≤ frameNext fs n + 1
+    → drop (frameNext fs n + 1) (symbolOf P (frameSymbol fs n) .inputs) ++ wantedBy P fs n left ≡ wantedBy P fs n left
+frame-done P fs n left h = ap (λ (l : List ℕ). l ++ wantedBy P fs n left) (drop-of-length-le (symbolOf P (frameSymbol fs n) .inputs) h)
 
 -- it was not: the frame goes on to the next
 pub frame-on : (P : Pack) (fs : List ℕ) (n left : ℕ) → 2 * n + 1 < length fs
-    → drop (nextIn fs n + 1) (symbolOf P (symbolIn fs n) .inputs) ++ wantedBy P fs n left ≡ wantedBy P (set fs (2 * n + 1) (nextIn fs n + 1)) (n + 1) left
+    → drop (frameNext fs n + 1) (symbolOf P (frameSymbol fs n) .inputs) ++ wantedBy P fs n left ≡ wantedBy P (set fs (2 * n + 1) (frameNext fs n + 1)) (n + 1) left
 unfolding wantedBy
 frame-on P fs n left h =
-    let gs : List ℕ = set fs (2 * n + 1) (nextIn fs n + 1) in
-    let e : getD gs (2 * n + 1) 0 ≡ nextIn fs n + 1 = getD-set-same fs (2 * n + 1) (nextIn fs n + 1) 0 h in
-    let f : getD gs (2 * n) 0 ≡ symbolIn fs n = getD-set-other fs (2 * n + 1) (2 * n) (nextIn fs n + 1) 0 (omega arith) in
-    rw (add-one n, e, f) (ap (λ (l : List ℕ). drop (nextIn fs n + 1) (symbolOf P (symbolIn fs n) .inputs) ++ l) (sym (wanted-same P fs gs n left (λ j l. getD-set-other fs (2 * n + 1) j (nextIn fs n + 1) 0 (omega arith)))))
+    let gs : List ℕ = set fs (2 * n + 1) (frameNext fs n + 1) in
+    let e : getD gs (2 * n + 1) 0 ≡ frameNext fs n + 1 = getD-set-same fs (2 * n + 1) (frameNext fs n + 1) 0 h in
+    let f : getD gs (2 * n) 0 ≡ frameSymbol fs n = getD-set-other fs (2 * n + 1) (2 * n) (frameNext fs n + 1) 0 (omega arith) in
+    rw (add-one n, e, f) (ap (λ (l : List ℕ). drop (frameNext fs n + 1) (symbolOf P (frameSymbol fs n) .inputs) ++ l) (sym (wanted-same P fs gs n left (λ j l. getD-set-other fs (2 * n + 1) j (frameNext fs n + 1) 0 (omega arith)))))
 
 -- a symbol with arguments is a frame more
 pub frame-more : (P : Pack) (fs : List ℕ) (n left h : ℕ) → 2 * n + 1 < length fs → symbolOf P h .inputs ++ wantedBy P fs n left ≡ wantedBy P (set (set fs (2 * n) h) (2 * n + 1) 0) (n + 1) left

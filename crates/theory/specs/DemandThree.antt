@@ -22,7 +22,7 @@ use Rattle.definition.specs.Laws.Run.{enough-done}
 use Rattle.definition.specs.Laws.Put.{Bytes}
 use Rattle.definition.specs.Laws.Encode.{encode-parsed}
 use Rattle.definition.specs.Laws.Grow.{below-more}
-use Rattle.definition.specs.Laws.Store.{nodes-back, length-words}
+use Rattle.definition.specs.Laws.Store.{nodes-back, length-patternWords}
 use Rattle.definition.specs.Store.{nothing, patternWords, nodesIn}
 use Rattle.definition.specs.Answer.{Lent, answer, lengths, padded, mostCells}
 use Rattle.definition.specs.Run.{Run, done, outcome}
@@ -49,7 +49,7 @@ unfolding patternsIn padded
 patterns-begin n s =
     let zs : List ℕ = replicate (n - length (patternWords s)) 0 in
     let l = length-append (patternWords s) zs in
-    let m = length-words s in
+    let m = length-patternWords s in
     with (nodesIn (length (patternWords s ++ zs) - length s) zs) (nodes-back (length (patternWords s ++ zs)) s zs (omega arith))
 
 -- a class's row is found behind the others, whatever stands behind them all

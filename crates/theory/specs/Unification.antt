@@ -2,6 +2,8 @@
 pub mod Solve
 pub mod Count
 pub mod Roots
+pub mod Forest
+pub mod Like
 pub mod Join
 pub mod Kept
 pub mod Pairs

@@ -1,5 +1,6 @@
 //! `Store::intern` of the original beside the library's `intern_all`.
 use crate::keys::{FAMILIES, Keys};
+use crate::numbers::median;
 use crate::oracle::Store;
 use crate::ours::{DONE, Lent, Tried};
 use std::fmt::Write as _;
@@ -132,12 +133,6 @@ fn done(tried: Tried) -> Result<(), String> {
         DONE => Ok(()),
         code => Err(format!("code {code}, not {DONE}")),
     }
-}
-
-/// The middle one of an odd number of times.
-fn median(mut times: Vec<f64>) -> f64 {
-    times.sort_by(f64::total_cmp);
-    times[times.len() / 2]
 }
 
 fn table(rows: &[Row], rounds: usize) -> String {

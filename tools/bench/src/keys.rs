@@ -1,4 +1,5 @@
 //! Generated keys in families, the same in every run.
+use crate::numbers::Numbers;
 use std::collections::HashSet;
 
 /// Keys as the library takes them: for each the count of its arguments, its head, its arguments.
@@ -62,21 +63,6 @@ pub const FAMILIES: [Family; 5] = [
     },
 ];
 
-/// Xorshift numbers.
-struct Numbers(u64);
-
-impl Numbers {
-    /// A number below `end`, which is not 0.
-    fn below(&mut self, end: usize) -> usize {
-        self.0 ^= self.0 << 13;
-        self.0 ^= self.0 >> 7;
-        self.0 ^= self.0 << 17;
-        ((u128::from(self.0) * end as u128) >> 64) as usize
-    }
-}
-
-const SEED: u64 = 0x2545_f491_4f6c_dd1d;
-
 fn chain(n: usize) -> Keys {
     let mut keys = Keys::default();
     keys.push(0, &[]);
@@ -89,7 +75,7 @@ fn chain(n: usize) -> Keys {
 fn mix(n: usize) -> Keys {
     const ARITY: [usize; 8] = [0, 1, 1, 2, 2, 3, 3, 4];
     const NEAR: usize = 64;
-    let mut numbers = Numbers(SEED);
+    let mut numbers = Numbers::default();
     let mut keys = Keys::default();
     let mut seen = HashSet::new();
     let mut nodes: Vec<(u32, Vec<u32>)> = Vec::new();
@@ -126,7 +112,7 @@ fn grid(n: usize) -> Keys {
 }
 
 fn wide(n: usize) -> Keys {
-    let mut numbers = Numbers(SEED);
+    let mut numbers = Numbers::default();
     let mut keys = Keys::default();
     for i in 0..n {
         let mut args = [i as u32; 16];
@@ -140,7 +126,7 @@ fn wide(n: usize) -> Keys {
 
 fn repeats(n: usize) -> Keys {
     const NODES: usize = 1000;
-    let mut numbers = Numbers(SEED);
+    let mut numbers = Numbers::default();
     let mut keys = Keys::default();
     for i in 0..n {
         let node = if i < NODES { i } else { numbers.below(NODES) };

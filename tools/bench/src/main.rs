@@ -1,15 +1,24 @@
-//! bench: the library's archive timed beside the Rust original, and held against the
-//! recorded vectors. build.rs brings both in.
+//! bench: the library's archives timed beside the Rust original and by themselves, and
+//! held against the recorded vectors and certpack. build.rs brings them in.
+mod edits;
+mod forms;
 #[cfg(feature = "original")]
 mod intern;
 #[cfg(feature = "original")]
 mod keys;
+mod limits;
+mod numbers;
 mod ours;
+mod pace;
+mod read;
+mod reads;
 mod recorded;
+mod records;
 #[cfg(feature = "original")]
 #[allow(dead_code)]
 #[path = "../../oracle/src/stand_in/mod.rs"]
 mod stand_in;
+mod tries;
 
 // The names that the original's files call these by.
 #[cfg(feature = "original")]
@@ -29,11 +38,18 @@ bench: the library beside the Rust original
   bench intern --quick    up to 10,000 keys and fewer rounds, for tests
   bench vectors FOLDER    intern the pattern store of each recorded case of FOLDER
                           in the library, and check what comes back
+  bench read              time the reading of generated packs, up to 10 MB, in the
+                          library
+  bench read --quick      up to 100 kB and fewer rounds, for tests
+  bench reads FOLDER      read every recorded pack of FOLDER, its truncations and
+                          edits, and packs at each limit in the library; check the
+                          answers beside certpack's, and that work is cleared
   bench --help            this page
 
 `bench intern` wants a build with the feature `original`.
-Exit status: 0 done; 1 a difference or a fault in the input, said in one line on
-standard error; 2 a wrong call.
+Exit status: 0 done; 1 a difference, a fault in the input, or a full `bench read` in
+which reading a byte of a largest pack takes over 3 times as long as one of a smallest,
+said in one line on standard error; 2 a wrong call.
 ";
 
 fn main() -> ExitCode {
@@ -46,6 +62,9 @@ fn run(args: &[&str]) -> Result<String, Fault> {
         ["intern"] => intern(false),
         ["intern", "--quick"] => intern(true),
         ["vectors", folder] => Ok(recorded::check(folder)?),
+        ["reads", folder] => Ok(reads::check(folder)?),
+        ["read"] => Ok(pace::report(false)?),
+        ["read", "--quick"] => Ok(pace::report(true)?),
         _ => Err(cli::unknown(args)),
     }
 }

@@ -151,5 +151,5 @@ arguments-done P (s ∷ ss) (a ∷ args) zero e h = absurd (omega arith)
 arguments-done P (s ∷ ss) (a ∷ args) (suc i) e h = arguments-done P ss args i (omega arith) (omega arith)
 
 -- the node that a body gives
-abbrev pub nodeIn : Pack → List ℕ → Node
-nodeIn P b = record { head = le 4 b 0; args = words (length (symbolOf P (le 4 b 0) .inputs)) (drop 4 b) }
+abbrev pub nodeBy : Pack → List ℕ → Node
+nodeBy P b = record { head = le 4 b 0; args = words (length (symbolOf P (le 4 b 0) .inputs)) (drop 4 b) }

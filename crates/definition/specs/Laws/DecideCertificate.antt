@@ -12,7 +12,7 @@ use Rattle.definition.specs.Pack.{prop, Goal, Result, Cut, Pack, symbolO
 use Rattle.definition.specs.Frame.{good, bad, _>>=_, right}
 use Rattle.definition.specs.Theory.{isName, newName, words}
 use Rattle.definition.specs.Certificate.{isSymbol, isArguments, sameNode, takeNode, isJudgment, isStep, count, takeStep, takeGoal, takeResult, takeCut, takeAbstract}
-use Rattle.definition.specs.Laws.Decide.{pass-right, stop-right, and-yes, and-no-left, and-no-right, name-wrong, name-again, name-new, judgment-outside, judgment-unsorted, judgment-yes, nodeIn}
+use Rattle.definition.specs.Laws.Decide.{pass-right, stop-right, and-yes, and-no-left, and-no-right, name-wrong, name-again, name-new, judgment-outside, judgment-unsorted, judgment-yes, nodeBy}
 
 -- a node
 module _ (P : Pack) (b : List ℕ) where
@@ -40,11 +40,11 @@ module _ (P : Pack) (b : List ℕ) where
         node-arguments e = pass-right _ _ (le-leb _ _ long) ∙ pass-right _ _ (lt-ltb _ _ head) ∙ pass-right _ _ (eq-eqb _ _ whole) ∙ stop-right _ _ e
 
         module _ (arguments : isArguments P (symbolOf P (le 4 b 0) .inputs) (words (length (symbolOf P (le 4 b 0) .inputs)) (drop 4 b)) ≡ true) where
-          pub node-again : any (sameNode (nodeIn P b)) (P .nodes) ≡ true → takeNode P b ≡ bad
+          pub node-again : any (sameNode (nodeBy P b)) (P .nodes) ≡ true → takeNode P b ≡ bad
           unfolding takeNode
           node-again e = pass-right _ _ (le-leb _ _ long) ∙ pass-right _ _ (lt-ltb _ _ head) ∙ pass-right _ _ (eq-eqb _ _ whole) ∙ pass-right _ _ arguments ∙ stop-right _ _ (ap not e)
 
-          pub node-taken : any (sameNode (nodeIn P b)) (P .nodes) ≡ false → takeNode P b ≡ good (withNode P (nodeIn P b))
+          pub node-taken : any (sameNode (nodeBy P b)) (P .nodes) ≡ false → takeNode P b ≡ good (withNode P (nodeBy P b))
           unfolding takeNode
           node-taken e = pass-right _ _ (le-leb _ _ long) ∙ pass-right _ _ (lt-ltb _ _ head) ∙ pass-right _ _ (eq-eqb _ _ whole) ∙ pass-right _ _ arguments ∙ pass-right _ _ (ap not e)
 

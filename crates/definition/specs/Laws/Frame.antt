@@ -2,7 +2,7 @@
 use mathlib.Core.Path.{_≡_, refl, sym, ap, _∙_}
 use mathlib.Core.Bool.{Bool, true, false}
 use mathlib.Core.List.{List, [], _∷_, _++_}
-use Prim.Native.Nat.{ℕ, zero, suc, _+_, _≤_}
+use Prim.Native.Nat.{ℕ, zero, suc, _+_, _≤_, _<_}
 use native.Mathlib.Omega.{arith}
 use borrow.Author.Tests.{leb-true}
 use lib.Dec.{leb}
@@ -10,6 +10,7 @@ use lib.ListN.{length, take, drop}
 use lib.Seq.{length-take-le}
 use Rattle.definition.specs.Test.{Is, is, see, never, tests}
 use Rattle.definition.specs.Little.{le}
+use Rattle.definition.specs.declared.Refusal.the-variants.{Form, Limit}
 use Rattle.definition.specs.Frame.{Checked, good, bad, over, _>>=_, right, within, Read, fine, refuse, Kinds, Record, record-of, records}
 
 pub good-eq : {A : Type 0} {a b : A} → good a ≡ good b → a ≡ b
@@ -93,3 +94,27 @@ records-one K step (x ∷ xs) at last a r b p q =
     let e : suc at + n ≡ at + (6 + length (r .body)) = omega arith in
     let f : suc n ≡ 6 + length (r .body) = omega arith in
     rw (p, q, records) (records-skip K step xs n (suc at) (r .kind) b ∙ rw (e, ← f))
+
+-- no byte is left
+pub records-end : {A : Type 0} (K : Kinds) (step : A → Record → Checked A) (s : List ℕ) (at last : ℕ) (a : A) → length s ≡ 0 → records K step s 0 at last a ≡ fine a
+unfolding records
+records-end K step [] at last a e = refl
+records-end K step (x ∷ xs) at last a e = absurd (omega arith)
+
+-- bytes are left, and they are no record
+pub records-cut : {A : Type 0} (K : Kinds) (step : A → Record → Checked A) (s : List ℕ) (at last : ℕ) (a : A) → 0 < length s → record-of K last s ≡ bad → records K step s 0 at last a ≡ refuse (Form at)
+unfolding records
+records-cut K step [] at last a l p = absurd (omega arith)
+records-cut K step (x ∷ xs) at last a l p = rw (p, records)
+
+-- a record against its form
+pub records-bad : {A : Type 0} (K : Kinds) (step : A → Record → Checked A) (s : List ℕ) (at last : ℕ) (a : A) (r : Record) → record-of K last s ≡ good r → step a r ≡ bad → records K step s 0 at last a ≡ refuse (Form at)
+unfolding records
+records-bad K step [] at last a r p q = let f = framed K last [] r p in absurd (omega (arith, f .header))
+records-bad K step (x ∷ xs) at last a r p q = rw (p, q, records)
+
+-- a record over a limit
+pub records-over : {A : Type 0} (K : Kinds) (step : A → Record → Checked A) (s : List ℕ) (at last : ℕ) (a : A) (r : Record) → record-of K last s ≡ good r → step a r ≡ over → records K step s 0 at last a ≡ refuse (Limit at)
+unfolding records
+records-over K step [] at last a r p q = let f = framed K last [] r p in absurd (omega (arith, f .header))
+records-over K step (x ∷ xs) at last a r p q = rw (p, q, records)

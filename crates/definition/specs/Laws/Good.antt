@@ -72,3 +72,10 @@ parsed-once s P e = parsed-sound s P e .once
 -- it is within the limits
 pub parsed-few : (s : List ℕ) (P : Pack) → parse s ≡ fine P → Few P
 parsed-few s P e = parsed-sound s P e .few
+
+-- nothing read is good, and so is what is good with a record more
+pub empty-good : Good empty
+empty-good = empty-sound .fit
+
+pub record-good : (P : Pack) (r : Record) (Q : Pack) → Good P → takeRecord P r ≡ good Q → Good Q
+record-good P r Q G e = taken-good P Q (taken P r Q e) G

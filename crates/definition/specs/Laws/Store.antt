@@ -84,7 +84,7 @@ nodes-back (suc k) (n ∷ s) zs h =
     rw (e, take-append-seam (n .args) (patternWords s ++ zs), drop-append-seam (n .args) (patternWords s ++ zs), m) (ap (λ (ns : List Node). n ∷ ns) (nodes-back k s zs (omega arith)))
 
 -- a node has a word at least
-pub length-words : (s : List Node) → length s ≤ length (patternWords s)
+pub length-patternWords : (s : List Node) → length s ≤ length (patternWords s)
 unfolding patternWords
-length-words [] = omega arith
-length-words (n ∷ s) = let i = length-words s in let l = length-append (n .args) (patternWords s) in omega arith
+length-patternWords [] = omega arith
+length-patternWords (n ∷ s) = let i = length-patternWords s in let l = length-append (n .args) (patternWords s) in omega arith

@@ -18,7 +18,9 @@ use Rattle.definition.specs.Verdict.{noGoal, noResult}
 use Rattle.definition.specs.Good.{noCut, Arguments, GoodNode, GoodJudgment, GoodStep, GoodGoal, GoodResult, GoodCut, GoodAbstract}
 use Rattle.definition.specs.Laws.Grow.{still, more, none-fresh}
 use Rattle.definition.specs.Laws.Taken.{Taken}
-use Rattle.definition.specs.Laws.TakenTheory.{all-below, named-new, words-length}
+use Rattle.definition.specs.Laws.TakenTheory.{all-below, named-new}
+use Rattle.definition.specs.Laws.Put.{length-words}
+use Rattle.definition.specs.Laws.Store.{node-same}
 
 -- arguments that pass are earlier nodes of the sorts
 arguments-earlier : (P : Pack) (ss args : List ℕ) → isArguments P ss args ≡ true → Arguments P (length (P .nodes)) ss args
@@ -30,11 +32,6 @@ arguments-earlier P (s ∷ ss) (a ∷ args) e =
     let p = and-parts (ltb a (length (P .nodes)) and eqb (sortOf P a) s) (isArguments P ss args) e in
     let q = and-parts (ltb a (length (P .nodes))) (eqb (sortOf P a) s) (p .0) in
     (ltb-true _ _ (q .0), eqb-true _ _ (q .1), arguments-earlier P ss args (p .1))
-
--- a node is the same as itself
-same-node : (n : Node) → sameNode n n ≡ true
-unfolding sameNode
-same-node n = rw (eq-eqb (n .head) (n .head) refl, _and_, same-refl (n .args))
 
 -- a ground node that was taken
 pub taken-node : (P : Pack) (body : List ℕ) (Q : Pack) → takeNode P body ≡ good Q → Taken P Q
@@ -49,7 +46,7 @@ taken-node P body Q e =
     let t4 = right-then _ _ _ (t3 .1) in
     let t5 = right-then _ _ _ (t4 .1) in
     let g : GoodNode P (length (P .nodes)) n = record { head = ltb-true _ _ (t2 .0); args = arguments-earlier P inputs (n .args) (t4 .0) } in
-    let new = none-fresh (sameNode n) (λ (z : Node). z) noNode (P .nodes) n (λ y q. rw q (same-node n)) (t5 .0) in
+    let new = none-fresh (sameNode n) (λ (z : Node). z) noNode (P .nodes) n (λ y q. rw q (node-same n)) (t5 .0) in
     subst (Taken P) (good-eq (t5 .1)) (record { sorts = still; symbols = still; rules = still; nodes = more n (g, new); steps = still; goals = still; results = still; cuts = still; abstracts = still })
 
 -- a judgment that passes is a node with a predicate on top
@@ -76,7 +73,7 @@ taken-step P body Q e =
     let g : GoodStep P (length (P .steps)) s = record {
       rule = ltb-true _ _ (given .0);
       judgment = judgment-given P judgment (given .1);
-      refs = words-length premises (drop 8 body);
+      refs = length-words premises (drop 8 body);
       earlier = all-below (length (P .steps)) refs (t4 .0);
     } in
     subst (Taken P) (good-eq (t4 .1)) (record { sorts = still; symbols = still; rules = still; nodes = still; steps = more s g; goals = still; results = still; cuts = still; abstracts = still })

@@ -15,6 +15,7 @@ use Rattle.definition.specs.Laws.Frame.{good-eq, bind-good, right-then, 
 use Rattle.definition.specs.Theory.{isName, newName, words, takeSort, isSort, isOutput, takeSymbol, Unread, Word, nextWord, variable, fits, wanted, made, Prefix, prefix, only, takeRule}
 use Rattle.definition.specs.Certificate.{count}
 use Rattle.definition.specs.Good.{Below, Sorted, SortedAll, Judgments, wordsOf, wordsOfAll, GoodSymbol, GoodRule}
+use Rattle.definition.specs.Laws.Put.{length-words}
 use Rattle.definition.specs.Laws.Grow.{Fresh, still, more, none-fresh, fresh-map}
 use Rattle.definition.specs.Laws.Taken.{Taken}
 
@@ -39,12 +40,6 @@ pub named-new : {A : Type 0} (key : A → List ℕ) (d : A) (xs : List A) (x : A
 named-new key d xs x e =
     let p = name-new (key x) (key d) (map key xs) e in
     (p .0, fresh-map key d xs x (p .1))
-
--- n words are n
-pub words-length : (n : ℕ) (s : List ℕ) → length (words n s) ≡ n
-unfolding words
-words-length zero s = refl
-words-length (suc n) s = ap suc (words-length n (drop 4 s))
 
 -- a good result of two steps, for what follows from both
 pub bind-then : {A B C : Type 0} {m : Checked A} {f : A → Checked B} {b : B}
@@ -94,7 +89,7 @@ taken-symbol P body Q e =
     let g : GoodSymbol P y = record {
       output = output-sort P (le 4 body 0) (given .0);
       inputs = sorts-below P inputs (given .1);
-      arity = rw (words-length arity (drop 6 body)) (leb-true _ _ (t3 .0));
+      arity = rw (length-words arity (drop 6 body)) (leb-true _ _ (t3 .0));
       name = new .0;
     } in
     let few = ltb-true _ _ (t1 .0) in
@@ -210,7 +205,7 @@ taken-rule P body Q e =
     let one = only-words P vars prop (c .terms) conclusion in
     let g : GoodRule P r = record {
       vars = sorts-below P vars (t5 .0);
-      variables = rw (words-length variables (drop 4 body)) (leb-true _ _ (small .0));
+      variables = rw (length-words variables (drop 4 body)) (leb-true _ _ (small .0));
       premises = js .0;
       arity = rw (js .1) (leb-true _ _ (small .1));
       conclusion = only-sorted P vars prop (c .terms) conclusion;

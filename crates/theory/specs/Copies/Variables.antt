@@ -17,7 +17,7 @@ use Rattle.definition.specs.Laws.Grow.{below-more}
 use Rattle.definition.specs.Store.{variableHead}
 use Rattle.definition.specs.Graph.{Vertex, Graph, variableVertex, vertex, isVar, upTo}
 use Rattle.theory.specs.Unification.Solve.{Solves, sortAt, Formed}
-use Rattle.theory.specs.Unification.Acyclic.{root-self}
+use Rattle.theory.specs.Unification.Forest.{root-self}
 use Rattle.theory.specs.Copies.Instantiate.{Environment}
 use Rattle.theory.specs.Unification.Circle.{length-upTo}
 

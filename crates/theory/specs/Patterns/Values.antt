@@ -16,7 +16,7 @@ use Rattle.definition.specs.Laws.Agreement.{onwards-some}
 use Rattle.definition.specs.Graph.{Graph, vertex, root, isVar, ends}
 use Rattle.definition.specs.Analysis.{pairing, valueAt, valued, Numbered, resolve}
 use Rattle.theory.specs.Unification.Solve.{treesAt, Solves, Formed}
-use Rattle.theory.specs.Unification.Acyclic.{root-self}
+use Rattle.theory.specs.Unification.Forest.{root-self}
 use Rattle.theory.specs.Copies.Terms.{Earlier, termsAt}
 use Rattle.theory.specs.Patterns.Interned.{grows-none}
 use Rattle.theory.specs.Patterns.Valued.{Agreeing}

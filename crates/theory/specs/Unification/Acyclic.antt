@@ -12,24 +12,8 @@ use Rattle.definition.specs.Tree.{Tree, tree, tree-then, noTree}
 use Rattle.definition.specs.Good.{Below}
 use Rattle.definition.specs.Graph.{Graph, vertex, follow, root, isVar, ends}
 use Rattle.theory.specs.Unification.Solve.{treesAt, Solves, Formed}
-use Rattle.theory.specs.Unification.Roots.{follow-none, follow-more}
-
--- roots ------------------------------------------------------------------
-
--- a node that is joined to none is its own root
-pub root-self : (g : Graph) (x : ℕ) → vertex g x .link ≡ none → root g x ≡ x
-unfolding root follow
-root-self g x e = follow-none (length g) g x e
-
--- joined nodes have one root
-pub root-link : (P : Pack) (g : Graph) → Formed P g → (x y : ℕ) → x < length g → vertex g x .link ≡ some y → root g x ≡ root g y
-unfolding root follow
-root-link P g F x y h e = at (length g) h (F x h .rooted) where
-  at : (n : ℕ) → x < n → vertex g (follow n g x) .link ≡ none → follow n g x ≡ follow n g y
-  at zero l r = absurd (omega arith)
-  at (suc n) l r =
-      let q : vertex g (follow n g y) .link ≡ none = rw (e, follow) at r in
-      rw (e, follow) (sym (follow-more n (suc n) g y q (omega arith)))
+use Rattle.theory.specs.Unification.Forest.{root-self, root-along}
+use Rattle.theory.specs.Unification.Kept.{formed-forest}
 
 -- a solution gives a node its root's tree
 pub solves-root : (θ : ℕ → Tree) (P : Pack) (g : Graph) → Formed P g → Solves θ g → (x : ℕ) → x < length g → θ x ≡ θ (root g x)
@@ -91,7 +75,7 @@ Ending n g = (x : ℕ) → x < length g → ends n g x ≡ true
 pub extends : (P : Pack) (g : Graph) → Formed P g → (n : ℕ) → Ending (suc n) g → (κ : ℕ → Tree) → Solves (value (suc n) g κ) g
 unfolding value ends
 extends P g F n E κ = record {
-  links = λ x y h e. ap (λ (r : ℕ). at r) (root-link P g F x y h e);
+  links = λ x y h e. ap (λ (r : ℕ). at r) (root-along g (formed-forest P g F) x y h e);
   apps = λ x h e v.
       let r = root-self g x e in
       let w : isVar (vertex g (root g x)) ≡ false = rw r v in

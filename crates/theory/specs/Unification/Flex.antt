@@ -13,11 +13,11 @@ use Rattle.definition.specs.Graph.{Graph, vertex, root, isVar, join, bind, cell
 use Rattle.theory.specs.Unification.Solve.{sortAt, Formed}
 use Rattle.theory.specs.Unification.Join.{Joined, join-joined, bind-joined}
 use Rattle.theory.specs.Unification.Marks.{Marked, or-right, join-marked, bind-marked}
-use Rattle.theory.specs.Unification.Kept.{same-var, sent, formed-joined, root-joined, root-sort}
+use Rattle.theory.specs.Unification.Forest.{root-self, sent}
+use Rattle.theory.specs.Unification.Kept.{same-var, formed-joined, root-joined, root-sort}
 use Rattle.theory.specs.Unification.Pairs.{Paired}
 use Rattle.theory.specs.Unification.Meet.{Met, same, left, right, both, apart, met, Leads, Roots, meet-says}
 use Rattle.theory.specs.Unification.Unify.{take-clashed, take-on}
-use Rattle.theory.specs.Unification.Acyclic.{root-self}
 
 -- marks afterwards, by marks before
 pub record FlexJoined (g h : Graph) : Type 0 where
@@ -78,7 +78,7 @@ link-onward : (P : Pack) (g h : Graph) (x y : ℕ) → Formed P g → Roots P g 
 unfolding sent
 link-onward P g h x y F R n j M =
     let H = formed-joined g h x y j (R .root-x) (R .root-y) n P F (R .inside-x) (R .inside-y) (R .sort) in
-    let to : (z : ℕ) → z < length g → root h z ≡ sent x y (root g z) = λ z l. root-joined g h x y j (R .root-x) (R .root-y) n P F H z l in
+    let to : (z : ℕ) → z < length g → root h z ≡ sent x y (root g z) = λ z l. root-joined g h x y j (R .root-x) (R .root-y) n P F (R .inside-y) z l in
     let var : (z : ℕ) → isVar (vertex h z) ≡ isVar (vertex g z) = same-var g h (j .same) in
     let hit : (z : ℕ) → z ≡ x → root h z ≡ y = λ z q. rw q (to x (R .inside-x) ∙ ap (sent x y) (root-self g x (R .root-x)) ∙ gone) in
     let miss : (z : ℕ) → z < length g → vertex g z .link ≡ none → (z ≡ x → ⊥) → root h z ≡ z = λ z l r q. root-self h z (j .there z q ∙ r) in

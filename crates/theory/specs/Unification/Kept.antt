@@ -12,7 +12,8 @@ use Rattle.definition.specs.Tree.{Tree, tree}
 use Rattle.definition.specs.Test.{is, see, never, tests}
 use Rattle.definition.specs.Graph.{Graph, vertex, follow, root, isVar}
 use Rattle.theory.specs.Unification.Solve.{treesAt, Solves, sortAt, SortsAt, Formed, SameNodes}
-use Rattle.theory.specs.Unification.Roots.{follow-none, follow-some, follow-more, Ends, Inside, follow-inside, ends-soon}
+use Rattle.theory.specs.Unification.Roots.{follow-none, follow-some, Inside}
+use Rattle.theory.specs.Unification.Forest.{Forest, root-inside, sent, Linked, linked-forest, root-linked}
 use Rattle.theory.specs.Unification.Join.{Joined}
 
 -- the same nodes are variables
@@ -39,46 +40,17 @@ same-sorts P g h s (x ∷ xs) (t ∷ ss) q = (same-sort P g h s x ∙ q .0, same
 pub formed-inside : (P : Pack) (g : Graph) → Formed P g → Inside g
 formed-inside P g F x y h e = F x h .linked y e .0
 
--- what was x's goes to y
-unfoldable pub sent : ℕ → ℕ → ℕ → ℕ
-sent x y w = elim (eqb w x) [ true ↦ y | false ↦ w ]
+-- in a well-formed graph every chain comes to an end
+pub formed-forest : (P : Pack) (g : Graph) → Formed P g → Forest g
+formed-forest P g F = record { inside = formed-inside P g F; rooted = λ x h. F x h .rooted }
 
 -- x is joined to y
 module _ (g h : Graph) (x y : ℕ) (j : Joined g h x y) where
+  link : Linked g h x y
+  link = record { long = j .same .long; here = j .here; there = j .there }
+
   -- both were roots
   module _ (rx : vertex g x .link ≡ none) (ry : vertex g y .link ≡ none) (n : x ≡ y → ⊥) where
-    -- y is a root still
-    still : vertex h y .link ≡ none
-    still = j .there y (λ q. n (sym q)) ∙ ry
-
-    -- a root is sent to a root
-    sent-root : (w : ℕ) → vertex g w .link ≡ none → vertex h (sent x y w) .link ≡ none
-    unfolding sent
-    sent-root w r = elim (see (eqb w x)) [
-      | is true e ↦ rw (e, sent) still
-      | is false e ↦ rw (e, sent) (j .there w (λ q. omega tests) ∙ r)
-    ]
-
-    -- from a root the chain goes where it is sent
-    from-root : (k w : ℕ) → vertex g w .link ≡ none → follow (suc k) h w ≡ sent x y w
-    unfolding sent
-    from-root k w r = elim (see (eqb w x)) [
-      | is true e ↦ let q : w ≡ x = omega tests in rw (e, sent) (ap (follow (suc k) h) q ∙ follow-some k h x y (j .here) ∙ follow-none k h y still)
-      | is false e ↦ rw (e, sent) (follow-none (suc k) h w (j .there w (λ q. omega tests) ∙ r))
-    ]
-
-    -- a chain that ended is followed on
-    sent-follow : (k z : ℕ) → Ends k g z → follow (suc k) h z ≡ sent x y (follow k g z)
-    unfolding follow
-    sent-follow zero z r = rw (follow-none zero g z r) (from-root zero z r)
-    sent-follow (suc k) z r = elim (see (vertex g z .link)) [
-      | is none e ↦ rw (follow-none (suc k) g z e) (from-root (suc k) z e)
-      | is (some w) e ↦
-          let o : vertex h z .link ≡ some w = j .there z (λ q. let c : none ≡ some w = sym rx ∙ ap (λ v. vertex g v .link) (sym q) ∙ e in never (cc)) ∙ e in
-          let s = follow-some k g z w e in
-          follow-some (suc k) h z w o ∙ sent-follow k w (rw s at r) ∙ ap (sent x y) (sym s)
-    ]
-
     -- the graph stays well formed
     pub formed-joined : (P : Pack) → Formed P g → x < length g → y < length g → sortAt P g x ≡ sortAt P g y → Formed P h
     unfolding root
@@ -94,8 +66,8 @@ module _ (g h : Graph) (x y : ℕ) (j : Joined g h x y) where
           sorts = λ e. rw (j .same .heads z, j .same .args z) (same-sorts P g h (j .same) (vertex g z .args) (symbolOf P (vertex g z .head) .inputs) (f .sorts (sym v ∙ e)));
           bare = λ e. j .same .args z ∙ f .bare (sym v ∙ e);
           linked = λ w e. let q = into z w l e in (rw m (q .0), same-sort P g h (j .same) z ∙ q .1 ∙ sym (same-sort P g h (j .same) w));
-          rooted = ends-soon h inside (suc (length g)) z hz (rw (sent-follow (length g) z (f .rooted)) (sent-root (follow (length g) g z) (f .rooted)));
-          within = follow-inside h inside (length h) z hz;
+          rooted = forest .rooted z hz;
+          within = root-inside h forest z hz;
         }
       where
         into : (z w : ℕ) → z < length g → vertex h z .link ≡ some w → (w < length g) × (sortAt P g z ≡ sortAt P g w)
@@ -107,15 +79,12 @@ module _ (g h : Graph) (x y : ℕ) (j : Joined g h x y) where
           | is false q ↦ F z l .linked w (sym (j .there z (λ r. omega tests)) ∙ e)
         ]
 
-        inside : Inside h
-        inside z w l e = let m = j .same .long in rw m (into z w (omega arith) e .0)
+        forest : Forest h
+        forest = linked-forest g h x y link rx ry n (formed-forest P g F) hy
 
     -- the root of a node afterwards: x's class goes to y, all others stay
-    pub root-joined : (P : Pack) → Formed P g → Formed P h → (z : ℕ) → z < length g → root h z ≡ sent x y (root g z)
-    unfolding root
-    root-joined P F H z l =
-        let m = j .same .long in
-        sym (follow-more (length h) (suc (length g)) h z (H z (omega arith) .rooted) (omega arith)) ∙ sent-follow (length g) z (F z l .rooted)
+    pub root-joined : (P : Pack) → Formed P g → y < length g → (z : ℕ) → z < length g → root h z ≡ sent x y (root g z)
+    root-joined P F hy z l = root-linked g h x y link rx ry n (formed-forest P g F) hy z l
 
   -- a solution that has one tree for x and y respects the link
   pub joined-solves : (θ : ℕ → Tree) → Solves θ g → θ x ≡ θ y → Solves θ h

@@ -12,10 +12,10 @@ start-requires : tie.Need-start-requires
 start-requires c κs = (c .before .before .pre .0 .fits, c .before .before .pre .1)
 
 mul-result : tie.Need-mul-result
-mul-result c = let s = c .before .before .before in omega (arith, s .pre .2, length-records (s .args .work .now) (s .args .self) (s .args .kind), s .pre .0 .kept (s .args .kind) (s .pre .1) .few, s .pre .0 .fits .small)
+mul-result c = let s = c .before .before .before in omega (arith, s .pre .2, length-records (s .args .work .now) (s .args .self) (s .args .kind), s .pre .0 .kept (s .args .kind) (s .pre .1) .few, s .pre .0 .kept (s .args .kind) (s .pre .1) .small)
 
 add-result : tie.Need-add-result
-add-result c = let s = c .before .before .before in omega (arith, s .pre .2, length-records (s .args .work .now) (s .args .self) (s .args .kind), s .pre .0 .kept (s .args .kind) (s .pre .1) .few, s .pre .0 .fits .small)
+add-result c = let s = c .before .before .before in omega (arith, s .pre .2, length-records (s .args .work .now) (s .args .self) (s .args .kind), s .pre .0 .kept (s .args .kind) (s .pre .1) .few, s .pre .0 .kept (s .args .kind) (s .pre .1) .small)
 
 add-result-2 : tie.Need-add-result-2
 add-result-2 c =

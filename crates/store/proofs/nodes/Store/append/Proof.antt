@@ -6,7 +6,7 @@ use Prim.Native.Nat.{_+_, _-_}
 use native.Mathlib.Omega.{arith}
 use lib.ListN.{length, set}
 use Rattle.base.specs.Part.{put-lent}
-use Rattle.store.specs.Words.{nodeOf, words-most}
+use Rattle.store.specs.Words.{nodeWith, words-most}
 use Rattle.store.specs.Table.{append-words, length-written, length-key}
 use Rattle.store.specs.Stored.{nodes}
 use Rattle.store.proofs.nodes.Store.append.Statement.{statement}
@@ -31,7 +31,7 @@ same-length-2 c =
     let k = length (a .key .now) in
     let s = nodes (a .words .now) (a .self) in
     let e = put-lent (u + 1) (u + 1 + k) k (set (a .words .now) u (k - 1)) _ (a .key .now) refl (c .before .before .copy-words .ensures) ∙ append-words s (a .words .now) (a .key .now) u (F .placed .begins) (F .placed .used) (F .some) (F .fits) in
-    ap length e ∙ length-written (s ++ (nodeOf (a .key .now) ∷ [])) (a .words .now) (omega (arith, length-key s (a .key .now) (F .some), F .fits, F .placed .used))
+    ap length e ∙ length-written (s ++ (nodeWith (a .key .now) ∷ [])) (a .words .now) (omega (arith, length-key s (a .key .now) (F .some), F .fits, F .placed .used))
 
 returns : tie.Need-returns
 returns c =

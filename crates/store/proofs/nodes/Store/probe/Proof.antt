@@ -4,14 +4,14 @@ use Prim.Native.Nat.{_-_, _<_}
 use native.Mathlib.Omega.{arith}
 use lib.ListN.{length, getD}
 use Rattle.base.specs.Probe.{Passed, passed-none, passed-more}
-use Rattle.store.specs.Words.{nodeOf}
+use Rattle.store.specs.Words.{nodeWith}
 use Rattle.store.specs.Stored.{nodes, nodeAt}
 use Rattle.store.specs.Table.{search-ends, search-id, unlike, alike}
 use Rattle.store.proofs.nodes.Store.probe.Statement.{statement}
 use Rattle.store.proofs.nodes.Store.probe.Tie as tie
 
 abbrev Inv-loop : tie.InvT-loop
-Inv-loop self slots index words h key s₀ s = Passed slots (nodeAt (nodes words self)) (nodeOf key) h s × (s < length slots)
+Inv-loop self slots index words h key s₀ s = Passed slots (nodeAt (nodes words self)) (nodeWith key) h s × (s < length slots)
 
 abbrev μ-loop : tie.MeasureT-loop
 μ-loop self slots index words h key s₀ s = length slots - s
@@ -20,7 +20,7 @@ loop-holds : tie.Need-loop-holds Inv-loop μ-loop
 loop-holds c =
     let a = c .before .before .before .before .args in
     let S = c .before .before .before .before .pre in
-    let P = passed-none (a .slots .now) (nodeAt (nodes (a .words .now) (a .self))) (nodeOf (a .key .now)) (a .h) (search-ends _ _ _ _ _ _ S) in
+    let P = passed-none (a .slots .now) (nodeAt (nodes (a .words .now) (a .self))) (nodeWith (a .key .now)) (a .h) (search-ends _ _ _ _ _ _ S) in
     (P, P .ran .inside)
 
 has-requires : tie.Need-has-requires Inv-loop μ-loop
@@ -31,7 +31,7 @@ loop-again c =
     let a = c .before .before .before .before .before .before .before .before .before .args in
     let S = c .before .before .before .before .before .before .before .before .before .pre in
     let g = c .before .before .before .before .loop in
-    let P = passed-more (a .slots .now) (nodeAt (nodes (a .words .now) (a .self))) (nodeOf (a .key .now)) (a .h) (search-ends _ _ _ _ _ _ S) (g .s) (g .inv .0) (omega arith)
+    let P = passed-more (a .slots .now) (nodeAt (nodes (a .words .now) (a .self))) (nodeWith (a .key .now)) (a .h) (search-ends _ _ _ _ _ _ S) (g .s) (g .inv .0) (omega arith)
     (unlike _ _ _ _ _ _ S (nodeAt (nodes (a .words .now) (a .self)) (getD (a .slots .now) (g .s) 0 - 1)) _ (c .before .has .ensures) (c .if2 .left)) in
     (P, P .ran .inside)
 

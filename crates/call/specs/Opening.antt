@@ -1,0 +1,51 @@
+-- What opening a pack answers, for every pack and all lengths.
+use mathlib.Core.Path.{_≡_, refl, sym, _∙_}
+use mathlib.Core.List.{List}
+use mathlib.Core.Option.{Option, none, some}
+use Prim.Native.Nat.{ℕ}
+use native.Mathlib.Omega.{arith}
+use lib.ListN.{length}
+use Rattle.definition.specs.Pack.{Pack}
+use Rattle.definition.specs.Frame.{Read, fine, refuse}
+use Rattle.definition.specs.Parse.{parse}
+use Rattle.definition.specs.Answer.{Lent, lengths}
+use Rattle.definition.specs.declared.Refusal.{Refusal}
+use Rattle.reader.specs.Parsed.{Room, Represents}
+use Rattle.call.specs.Lengths.{lentOf, lengths-fit}
+use Rattle.call.specs.declared.lent.Lent.{Lent as Given}
+use Rattle.call.specs.declared.answer.Outcome.{Outcome}
+use Rattle.call.specs.declared.answer.Outcome.the-variants.{Done, Refused}
+
+-- "Order": lengths, work, the pack's first bad record
+unfoldable pub openingRefusal : Lent → List ℕ → Option Refusal
+unfolding lengths parse
+openingRefusal l pack =
+    elim (lengths l) [
+      | some r ↦ some r
+      | none ↦ elim (parse pack) [ refuse r ↦ some r | fine P ↦ none ]
+    ]
+
+-- the lengths pass and the pack is read, or the refusal
+abbrev pub Opens : Given → List ℕ → List ℕ → Outcome → Type 0
+Opens l pack work′ Done = (lengths (lentOf l) ≡ none) × (P : Pack) × (parse pack ≡ fine P) × Represents pack work′ P
+Opens l pack work′ (Refused r) = openingRefusal (lentOf l) pack ≡ some r
+
+module _ (l : Lent) (pack : List ℕ) where
+  -- the lengths are refused
+  pub lengths-refused : (r : Refusal) → some r ≡ lengths l → openingRefusal l pack ≡ some r
+  unfolding openingRefusal
+  lengths-refused r e = rw (← e, openingRefusal)
+
+  module _ (fit : none ≡ lengths l) where
+    -- the lengths leave room for the tables
+    pub room : (work : List ℕ) → l .pack ≡ length pack → l .work ≡ length work → Room pack work
+    room work p w = let F = lengths-fit l (sym fit) in record { short = omega (arith, F .pack, p); fits = omega (arith, F .pack, F .least, p, w) }
+
+    -- the pack is refused, or read
+    pub pack-refused : (r : Refusal) → parse pack ≡ refuse r → openingRefusal l pack ≡ some r
+    unfolding openingRefusal
+    pack-refused r e = rw (← fit, e, openingRefusal)
+
+    pub pack-opened : (P : Pack) → parse pack ≡ fine P → openingRefusal l pack ≡ none
+    unfolding openingRefusal
+    pack-opened P e = rw (← fit, e, openingRefusal)

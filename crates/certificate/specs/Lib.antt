@@ -1,0 +1,8 @@
+-- What taking up a record of the certificate answers.
+pub mod Node
+pub mod Step
+pub mod Goal
+pub mod Result
+pub mod Marks
+pub mod Cut
+pub mod Abstracted

@@ -1,0 +1,36 @@
+// The abstract record.
+use base::id::Ground;
+use base::little::u32_at;
+use catalog::whole::Catalog;
+use horn::taken::Taken;
+use pack::symbol::symbol_arity;
+use pack::symbol::symbol_output;
+ghost use Rattle.definition.specs.Certificate.{takeAbstract};
+ghost use Rattle.horn.specs.Taking.{Reading, Whole, behind, Takes};
+ghost use Rattle.horn.specs.Sound.{Sound};
+
+// The abstract record, of which there may be one: a constructor and one of its positions.
+pub fn take_abstract(pack: &[u8], body: &[u8], work: &mut [u32], c: Catalog, at: usize) -> Taken
+    requires { ⌜ Reading (now pack) (now work) c at × Whole (now pack) (now body) at × Sound (now pack) (now work) c ⌝ }
+    ensures { λ r. ⌜ Takes (now (pack .entry)) (now (work .entry)) (now (work .exit)) c 8 (behind at (now (body .entry))) (λ P. takeAbstract P (now (body .entry))) r ⌝ }
+{
+    if c.count(work, 8) != 0 {
+        return Taken::Bad;
+    }
+    if body.len() != 8 {
+        return Taken::Bad;
+    }
+    let constructor = u32_at(body, 0) as usize;
+    if c.count(work, 1) <= constructor {
+        return Taken::Bad;
+    }
+    if symbol_output(pack, work, c, constructor) == Ground::PROP {
+        return Taken::Bad;
+    }
+    let position = u32_at(body, 4) as usize;
+    if symbol_arity(pack, work, c, constructor) <= position {
+        return Taken::Bad;
+    }
+    c.push(pack, work, 8, at, at + 6);
+    Taken::Good
+}

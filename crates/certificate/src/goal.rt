@@ -1,0 +1,34 @@
+// Goals.
+use base::little::u32_at;
+use catalog::region::Entered;
+use catalog::whole::Catalog;
+use frame::name::is_name;
+use horn::taken::Taken;
+use pack::node::node_sort;
+ghost use Rattle.definition.specs.Certificate.{takeGoal};
+ghost use Rattle.horn.specs.Taking.{Reading, Whole, behind, Takes};
+ghost use Rattle.horn.specs.Sound.{Sound};
+
+// A goal: a node with a predicate on top, and a name.
+pub fn take_goal(pack: &[u8], body: &[u8], work: &mut [u32], c: Catalog, at: usize) -> Taken
+    requires { ⌜ Reading (now pack) (now work) c at × Whole (now pack) (now body) at × Sound (now pack) (now work) c ⌝ }
+    ensures { λ r. ⌜ Takes (now (pack .entry)) (now (work .entry)) (now (work .exit)) c 5 (behind at (now (body .entry))) (λ P. takeGoal P (now (body .entry))) r ⌝ }
+{
+    if body.len() < 4 {
+        return Taken::Bad;
+    }
+    let node = u32_at(body, 0) as usize;
+    if c.count(work, 3) <= node {
+        return Taken::Bad;
+    }
+    if node_sort(pack, work, c, node) != 4294967295 {
+        return Taken::Bad;
+    }
+    if !is_name(&body[4..]) {
+        return Taken::Bad;
+    }
+    match c.enter(pack, work, 5, at, at + 6 + 4) {
+        Entered::New => Taken::Good,
+        Entered::Old => Taken::Bad,
+    }
+}

@@ -1,0 +1,2 @@
+-- What the calls of a dock promise.
+pub mod Check

@@ -1,0 +1,2 @@
+// The calls of a dock.
+pub mod check;

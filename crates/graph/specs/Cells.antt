@@ -1,0 +1,109 @@
+-- The nodes that cells and a table stand for. A row of the table: where the node starts in the cells, its link and one or 0, its sort, whether it
+-- is flexible, whether it is rigid.
+use mathlib.Core.Path.{_≡_, refl, sym, ap, ap₂, _∙_}
+use mathlib.Core.Bool.{Bool, true, false}
+use mathlib.Core.List.{List, [], _∷_, _++_}
+use mathlib.Core.Option.{Option, none, some}
+use Prim.Native.Nat.{ℕ, zero, suc, _+_, _*_, _-_, _≤_, _<_}
+use native.Mathlib.Omega.{arith}
+use native.Mathlib.Decide.{ℕ-discrete}
+use native.Mathlib.Numerals.{add-one}
+use lib.ListN.{length, getD, set, length-append, List·getD-append}
+use lib.Seq.{getD-at, getD-set-same, getD-set-other}
+use Rattle.definition.specs.Graph.{Vertex, Graph, applied, vertex, cells}
+use Rattle.base.specs.Part.{part, length-part, part-same}
+use Rattle.theory.specs.Unification.Like.{Like}
+use Rattle.graph.specs.declared.graph.Graph.{Graph as Counts}
+
+-- the words of a node's row
+abbrev pub startIn : List ℕ → ℕ → ℕ
+startIn table i = getD table (5 * i) 0
+
+abbrev pub linkWord : List ℕ → ℕ → ℕ
+linkWord table i = getD table (5 * i + 1) 0
+
+abbrev pub sortWord : List ℕ → ℕ → ℕ
+sortWord table i = getD table (5 * i + 2) 0
+
+abbrev pub flexWord : List ℕ → ℕ → ℕ
+flexWord table i = getD table (5 * i + 3) 0
+
+abbrev pub rigidWord : List ℕ → ℕ → ℕ
+rigidWord table i = getD table (5 * i + 4) 0
+
+-- 0 is no link, else it is the node's number and one
+abbrev pub linkIn : ℕ → Option ℕ
+linkIn zero = none
+linkIn (suc y) = some y
+
+-- a mark is set or 0
+abbrev pub markIn : ℕ → Bool
+markIn zero = false
+markIn (suc m) = true
+
+-- a node's arguments end where the next node starts
+unfoldable pub vertexIn : List ℕ → List ℕ → ℕ → Vertex
+vertexIn words table i = record {
+  head = getD words (startIn table i) 0;
+  args = part (startIn table i + 1) (startIn table (suc i) - (startIn table i + 1)) words;
+  link = linkIn (linkWord table i);
+  sort = sortWord table i;
+  flex = markIn (flexWord table i);
+  rigid = markIn (rigidWord table i);
+}
+
+-- the first n nodes
+unfoldable pub graphIn : List ℕ → List ℕ → ℕ → Graph
+unfolding vertexIn
+graphIn words table zero = []
+graphIn words table (suc n) = graphIn words table n ++ (vertexIn words table n ∷ [])
+
+pub length-graphIn : (words table : List ℕ) (n : ℕ) → length (graphIn words table n) ≡ n
+unfolding graphIn
+length-graphIn words table zero = refl
+length-graphIn words table (suc n) = length-append (graphIn words table n) (vertexIn words table n ∷ []) ∙ ap (λ (k : ℕ). k + 1) (length-graphIn words table n) ∙ add-one n
+
+pub graph-at : (words table : List ℕ) (n i : ℕ) → i < n → vertex (graphIn words table n) i ≡ vertexIn words table i
+unfolding graphIn vertex
+graph-at words table zero i l = absurd (omega arith)
+graph-at words table (suc n) i l = elim (ℕ-discrete i n) [
+  | yes e ↦ getD-at (graphIn words table n) (vertexIn words table n) [] (applied 0 []) i (length-graphIn words table n ∙ sym e) ∙ ap (vertexIn words table) (sym e)
+  | no d ↦ List·getD-append (graphIn words table n) (vertexIn words table n ∷ []) (applied 0 []) i (omega (arith, length-graphIn words table n, d)) ∙ graph-at words table n i (omega (arith, d))
+]
+
+-- the nodes stand one behind the other in the cells, and there is a row more, for where the next one starts
+pub record Laid (words table : List ℕ) (s : Counts) : Type 0 where
+  pub room : 5 * s .nodes + 5 ≤ length table
+  pub first : startIn table 0 ≡ 0
+  pub rising : (i : ℕ) → i < s .nodes → startIn table i + 1 ≤ startIn table (suc i)
+  pub end : startIn table (s .nodes) ≡ s .used
+  pub fits : s .used ≤ length words
+  pub small : length words < 4294967295
+
+-- cells and table hold the graph g, whatever way its links go
+pub record Shows (words table : List ℕ) (s : Counts) (g : Graph) : Type 0 where
+  pub laid : Laid words table s
+  pub like : Like (graphIn words table (s .nodes)) g
+
+-- a node starts, and ends, within the cells that are used
+pub start-before : (words table : List ℕ) (s : Counts) → Laid words table s → (k i : ℕ) → i + k ≡ s .nodes → startIn table i + k ≤ s .used
+start-before words table s L zero i e = let q : i ≡ s .nodes = omega arith in omega (arith, ap (startIn table) q, L .end)
+start-before words table s L (suc k) i e = let r = L .rising i (omega arith) in let t = start-before words table s L k (suc i) (omega arith) in omega arith
+
+-- there are no more nodes than cells
+pub nodes-few : (words table : List ℕ) (s : Counts) → Laid words table s → s .nodes ≤ s .used
+nodes-few words table s L = let t = start-before words table s L (s .nodes) 0 (omega arith) in omega (arith, L .first)
+
+-- as many cells as are used
+pub cells-used : (words table : List ℕ) (s : Counts) → Laid words table s → (n : ℕ) → n ≤ s .nodes → cells (graphIn words table n) ≡ startIn table n
+unfolding graphIn cells vertexIn
+cells-used words table s L zero l = sym (L .first)
+cells-used words table s L (suc n) l =
+    let r = L .rising n (omega arith) in
+    let t = start-before words table s L (s .nodes - suc n) (suc n) (omega arith) in
+    let a = length-part (startIn table n + 1) (startIn table (suc n) - (startIn table n + 1)) words (omega (arith, L .fits)) in
+    cells-more (graphIn words table n) (vertexIn words table n) ∙ ap (λ (k : ℕ). k + suc (length (vertexIn words table n .args))) (cells-used words table s L n (omega arith)) ∙ omega (arith, a)
+  where
+    cells-more : (g : Graph) (v : Vertex) → cells (g ++ (v ∷ [])) ≡ cells g + suc (length (v .args))
+    cells-more [] v = omega arith
+    cells-more (w ∷ g) v = omega (arith, cells-more g v)

@@ -1,0 +1,2 @@
+// The term graph in lent cells.
+pub mod graph;

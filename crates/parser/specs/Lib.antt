@@ -1,0 +1,2 @@
+-- What reading alone answers, and calls written out.
+pub mod Read

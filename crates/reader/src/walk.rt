@@ -1,0 +1,85 @@
+// From one record to the next.
+use catalog::whole::Catalog;
+use certificate::abstracted::take_abstract;
+use certificate::cut::take_cut;
+use certificate::goal::take_goal;
+use certificate::node::take_node;
+use certificate::result::take_result;
+use certificate::step::take_step;
+use frame::header::Header;
+use frame::header::header_at;
+use horn::rule::take_rule;
+use horn::sort::take_sort;
+use horn::symbol::take_symbol;
+use horn::taken::Taken;
+ghost use Prim.Native.Nat.{_<_};
+ghost use lib.ListN.{length};
+ghost use Rattle.definition.specs.Parse.{takeRecord};
+ghost use Rattle.horn.specs.Taking.{Reading, Whole, behind};
+ghost use Rattle.horn.specs.Sound.{Sound};
+ghost use Rattle.certificate.specs.Marks.{Marks, Advances};
+ghost use Rattle.reader.specs.Walk.{Walking, Goes};
+
+// Behind a record: the next one starts here, behind one of this kind; or the record is against its form, or over a limit.
+pub enum Next {
+    At(usize, u32),
+    Bad,
+    Over,
+}
+
+// A record of any kind taken up.
+fn take_record(
+    pack: &[u8],
+    body: &[u8],
+    work: &mut [u32],
+    c: Catalog,
+    at: usize,
+    kind: u32,
+) -> Taken
+    requires { ⌜ Reading (now pack) (now work) c at × Whole (now pack) (now body) at × Sound (now pack) (now work) c × Marks (now pack) (now work) c ⌝ }
+    ensures { λ r. ⌜ Advances (now (pack .entry)) (now (work .entry)) (now (work .exit)) c (behind at (now (body .entry))) (λ P. takeRecord P (record { kind = kind; body = now (body .entry) })) r ⌝ }
+{
+    if kind == 1 {
+        return take_sort(pack, body, work, c, at);
+    }
+    if kind == 2 {
+        return take_symbol(pack, body, work, c, at);
+    }
+    if kind == 3 {
+        return take_rule(pack, body, work, c, at);
+    }
+    if kind == 4 {
+        return take_node(pack, body, work, c, at);
+    }
+    if kind == 5 {
+        return take_step(pack, body, work, c, at);
+    }
+    if kind == 6 {
+        return take_goal(pack, body, work, c, at);
+    }
+    if kind == 7 {
+        return take_result(pack, body, work, c, at);
+    }
+    if kind == 8 {
+        return take_cut(pack, body, work, c, at);
+    }
+    take_abstract(pack, body, work, c, at)
+}
+
+// The record at `at`, behind one of the kind `last`, taken up.
+pub fn take_next(pack: &[u8], work: &mut [u32], c: Catalog, at: usize, last: u32) -> Next
+    requires { ⌜ Walking (now pack) (now work) c at last × (at < length (now pack)) ⌝ }
+    ensures { λ r. ⌜ Goes (now (pack .entry)) (now (work .entry)) (now (work .exit)) c at r ⌝ }
+{
+    match header_at(pack, at, last) {
+        Header::Whole(kind, end) => {
+            let body = &pack[at + 6..end];
+            match take_record(pack, body, work, c, at, kind) {
+                Taken::Good => Next::At(end, kind),
+                Taken::Bad => Next::Bad,
+                Taken::Over => Next::Over,
+            }
+        }
+        Header::Bad => Next::Bad,
+    }
+}
