@@ -1,12 +1,14 @@
 # make demo: build what exists and run it on the shipped example.
 # make test: the gate.
 # make vectors: record the vectors anew from the Rust original's source, HORN=FOLDER.
-# make bench: time the library beside the Rust original, HORN=FOLDER, and its reader.
+# make bench: time the library beside the Rust original, HORN=FOLDER, and its reader and
+# step check.
+# make host: build the C example, target/host/check, over the library's archive.
 HORN ?= ../shared/docs/src
 CARGO = CARGO_TARGET_DIR=$(CURDIR)/target/tools cargo
 TOOLS = target/tools/release
 
-.PHONY: demo test tools oracle vectors bench
+.PHONY: demo test tools oracle vectors bench dock host
 
 test:
 	.ci/run
@@ -20,14 +22,23 @@ oracle: tools
 vectors: oracle
 	$(TOOLS)/oracle vectors tests/vectors examples/nat.horn tests/cases/*.horn
 
-bench: tools
+dock:
+	@mkdir -p target
+	@rt staticlib dock > target/dock.log 2>&1 || { cat target/dock.log; exit 1; }
+
+host: dock
+	@mkdir -p target/host
+	@cc -std=c99 -Wall -Wextra -pedantic -O2 -Iinclude -o target/host/check examples/check.c target/staticlib/libdock.a
+
+bench: tools dock
 	@rt staticlib interner > target/interner.log 2>&1 || { cat target/interner.log; exit 1; }
 	@rt staticlib parser > target/parser.log 2>&1 || { cat target/parser.log; exit 1; }
 	@HORN_SRC=$(realpath $(HORN)) RATTLE_LIB=$(CURDIR)/target/staticlib $(CARGO) build --offline --locked --release --quiet --manifest-path tools/Cargo.toml -p bench --features original
 	@$(TOOLS)/bench intern
 	@$(TOOLS)/bench read
+	@$(TOOLS)/bench check
 
-demo: tools
+demo: tools host
 	@rt check records > target/demo.log 2>&1 || { cat target/demo.log; exit 1; }
 	@echo "The worked example (examples/nat.horn) as a pack, by certpack dump:"
 	@$(TOOLS)/certpack dump examples/nat.pack
@@ -35,8 +46,8 @@ demo: tools
 	@echo "Its records, by the proved program records (offset, kind, length of the body):"
 	@target/bin/records < examples/nat.pack
 	@echo
-	@echo "Verdict on its steps, by certpack check (0 0: all pass):"
-	@$(TOOLS)/certpack check examples/nat.pack
+	@echo "Verdict on its steps and goals, by the library, called from C (examples/check.c):"
+	@target/host/check examples/nat.pack
 	@echo
 	@echo "Its goals, proof lines and goal lines as recorded from the Rust original:"
 	@$(TOOLS)/certpack recorded tests/vectors nat

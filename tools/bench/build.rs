@@ -31,14 +31,15 @@ fn named(variable: &str, what: &str, files: &[&str]) -> Vec<PathBuf> {
 fn main() {
     let archives = named(
         "RATTLE_LIB",
-        "the library's archives (it has libinterner.a and libparser.a)",
-        &["libinterner.a", "libparser.a"],
+        "the library's archives (it has libdock.a, libinterner.a and libparser.a)",
+        &["libdock.a", "libinterner.a", "libparser.a"],
     );
     if let Some(folder) = archives.first().and_then(|archive| archive.parent()) {
         println!("cargo::rustc-link-search=native={}", folder.display());
     }
-    println!("cargo::rustc-link-lib=static=interner");
-    println!("cargo::rustc-link-lib=static=parser");
+    for archive in ["dock", "interner", "parser"] {
+        println!("cargo::rustc-link-lib=static={archive}");
+    }
 
     if env::var_os("CARGO_FEATURE_ORIGINAL").is_none() {
         return;

@@ -1,12 +1,12 @@
 -- What opening a pack answers, for every pack and all lengths.
-use mathlib.Core.Path.{_≡_, refl, sym, _∙_}
+use mathlib.Core.Path.{_≡_, sym}
 use mathlib.Core.List.{List}
 use mathlib.Core.Option.{Option, none, some}
 use Prim.Native.Nat.{ℕ}
 use native.Mathlib.Omega.{arith}
 use lib.ListN.{length}
 use Rattle.definition.specs.Pack.{Pack}
-use Rattle.definition.specs.Frame.{Read, fine, refuse}
+use Rattle.definition.specs.Frame.{fine, refuse}
 use Rattle.definition.specs.Parse.{parse}
 use Rattle.definition.specs.Answer.{Lent, lengths}
 use Rattle.definition.specs.declared.Refusal.{Refusal}

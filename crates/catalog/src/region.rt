@@ -7,10 +7,10 @@ use base::zero::zero_words;
 ghost use mathlib.Core.Path.{_≡_};
 ghost use mathlib.Core.List.{[], _∷_, _++_};
 ghost use Prim.Native.Nat.{_+_, _*_, _<_, _≤_};
-ghost use lib.ListN.{length, getD};
+ghost use lib.ListN.{length};
 ghost use Rattle.definition.specs.Test.{same};
 ghost use Rattle.base.specs.Hash.{hashOf};
-ghost use Rattle.catalog.specs.Place.{keyAt, endOf, Framed};
+ghost use Rattle.catalog.specs.Place.{keyAt, endOf};
 ghost use Rattle.catalog.specs.Region.{sizeFor, countIn, placeIn, places, hashesFor, slotsIn, Kept, Keyed, Finds, Enters, Emptied, Searching, Probed, appended, Appending, Entering};
 
 // Where a search for a key ends: at the slot that holds it, or at the first free one.

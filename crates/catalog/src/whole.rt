@@ -6,8 +6,8 @@ ghost use mathlib.Core.Path.{_≡_};
 ghost use mathlib.Core.Bool.{true, false};
 ghost use Prim.Native.Nat.{_<_};
 ghost use lib.ListN.{length, getD};
-ghost use Rattle.catalog.specs.Place.{noPlace, keyAt};
-ghost use Rattle.catalog.specs.Whole.{startOf, capOf, recordsOf, keyedKind, Fits, Cataloged, EnteringIn, SoughtIn, EntersIn, More, Cleared, Clearing};
+ghost use Rattle.catalog.specs.Place.{noPlace};
+ghost use Rattle.catalog.specs.Whole.{startOf, capOf, recordsOf, keyedKind, Fits, Cataloged, EnteringIn, SoughtIn, EntersIn, More, Cleared};
 
 // Where the first region starts, and for how many records each has room at most.
 pub struct Catalog {

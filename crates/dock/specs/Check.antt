@@ -1,15 +1,15 @@
 -- What the step check promises, and the laws of its parts.
 use mathlib.Core.Path.{_≡_, refl, sym, ap, subst, _∙_}
-use mathlib.Core.List.{List, []}
+use mathlib.Core.List.{List}
 use mathlib.Core.Option.{Option, none, some}
 use Prim.Native.Nat.{ℕ}
 use lib.ListN.{length, replicate}
 use native.Mathlib.Omega.{arith}
 use Rattle.definition.specs.Test.{is, see, never}
 use Rattle.definition.specs.Pack.{Pack}
-use Rattle.definition.specs.Frame.{Read, fine, refuse}
+use Rattle.definition.specs.Frame.{fine, refuse}
 use Rattle.definition.specs.Parse.{parse}
-use Rattle.definition.specs.Answer.{answerOf, answer, lengths, padded, padded-none}
+use Rattle.definition.specs.Answer.{answerOf, answer, lengths, padded-none}
 use Rattle.definition.specs.Verdict.{Accepted, verdict}
 use Rattle.definition.specs.Check.{checkLent, checkRefusal, CheckLeft, certCheck}
 use Rattle.definition.specs.Laws.Good.{parsed-good, parsed-once, parsed-few}

@@ -1,6 +1,6 @@
 -- The nodes that cells and a table stand for. A row of the table: where the node starts in the cells, its link and one or 0, its sort, whether it
 -- is flexible, whether it is rigid.
-use mathlib.Core.Path.{_≡_, refl, sym, ap, ap₂, _∙_}
+use mathlib.Core.Path.{_≡_, refl, sym, ap, _∙_}
 use mathlib.Core.Bool.{Bool, true, false}
 use mathlib.Core.List.{List, [], _∷_, _++_}
 use mathlib.Core.Option.{Option, none, some}
@@ -8,10 +8,10 @@ use Prim.Native.Nat.{ℕ, zero, suc, _+_, _*_, _-_, _≤_, _<_}
 use native.Mathlib.Omega.{arith}
 use native.Mathlib.Decide.{ℕ-discrete}
 use native.Mathlib.Numerals.{add-one}
-use lib.ListN.{length, getD, set, length-append, List·getD-append}
-use lib.Seq.{getD-at, getD-set-same, getD-set-other}
+use lib.ListN.{length, getD, length-append, List·getD-append}
+use lib.Seq.{getD-at}
 use Rattle.definition.specs.Graph.{Vertex, Graph, applied, vertex, cells}
-use Rattle.base.specs.Part.{part, length-part, part-same}
+use Rattle.base.specs.Part.{part, length-part}
 use Rattle.theory.specs.Unification.Like.{Like}
 use Rattle.graph.specs.declared.graph.Graph.{Graph as Counts}
 
@@ -71,9 +71,9 @@ graph-at words table (suc n) i l = elim (ℕ-discrete i n) [
   | no d ↦ List·getD-append (graphIn words table n) (vertexIn words table n ∷ []) (applied 0 []) i (omega (arith, length-graphIn words table n, d)) ∙ graph-at words table n i (omega (arith, d))
 ]
 
--- the nodes stand one behind the other in the cells, and there is a row more, for where the next one starts
+-- the nodes stand one behind the other in the cells; there is a row for as many as the cells can hold, and one more, for where the next one starts
 pub record Laid (words table : List ℕ) (s : Counts) : Type 0 where
-  pub room : 5 * s .nodes + 5 ≤ length table
+  pub wide : 5 * length words + 5 ≤ length table
   pub first : startIn table 0 ≡ 0
   pub rising : (i : ℕ) → i < s .nodes → startIn table i + 1 ≤ startIn table (suc i)
   pub end : startIn table (s .nodes) ≡ s .used
@@ -93,6 +93,10 @@ start-before words table s L (suc k) i e = let r = L .rising i (omega arith) in 
 -- there are no more nodes than cells
 pub nodes-few : (words table : List ℕ) (s : Counts) → Laid words table s → s .nodes ≤ s .used
 nodes-few words table s L = let t = start-before words table s L (s .nodes) 0 (omega arith) in omega (arith, L .first)
+
+-- so that there is a row for each, and for the next
+pub room : (words table : List ℕ) (s : Counts) → Laid words table s → 5 * s .nodes + 5 ≤ length table
+room words table s L = omega (arith, nodes-few words table s L, L .fits, L .wide)
 
 -- as many cells as are used
 pub cells-used : (words table : List ℕ) (s : Counts) → Laid words table s → (n : ℕ) → n ≤ s .nodes → cells (graphIn words table n) ≡ startIn table n

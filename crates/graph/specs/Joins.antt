@@ -1,22 +1,21 @@
 -- Joining: one root is linked to another, and a flexible variable makes the one it is bound to flexible.
 use mathlib.Core.Path.{_≡_, refl, sym, ap, subst, _∙_}
 use mathlib.Core.Bool.{Bool, true, false, _||_}
-use mathlib.Core.List.{List, [], _∷_}
-use mathlib.Core.Option.{none}
-use Prim.Native.Nat.{ℕ, zero, suc, _+_, _*_, _-_, _≤_, _<_}
+use mathlib.Core.List.{List}
+use Prim.Native.Nat.{ℕ, zero, suc, _+_, _*_, _-_, _<_}
+use native.Mathlib.Numerals.{add-one}
 use native.Mathlib.Omega.{arith}
 use native.Mathlib.Decide.{ℕ-discrete, decLt}
 use borrow.Author.Tests.{eq-eqb, ne-eqb}
-use lib.Dec.{eqb}
 use lib.ListN.{length, getD, set}
 use lib.Seq.{set-getD}
 use Rattle.definition.specs.Test.{is, see}
 use Rattle.definition.specs.Store.{variableHead}
 use Rattle.definition.specs.Graph.{Vertex, Graph, vertex, isVar, withFlex, join, bind}
 use Rattle.theory.specs.Unification.Forest.{SameLinks}
-use Rattle.theory.specs.Unification.Like.{SameVertex, Like, like-linked, like-marked, placed-here, placed-there, join-linked, join-alike, flexed-links}
+use Rattle.theory.specs.Unification.Like.{SameVertex, like-linked, like-marked, placed-here, placed-there, join-linked, join-alike, flexed-links}
 use Rattle.graph.specs.declared.graph.Graph.{Graph as Counts}
-use Rattle.graph.specs.Cells.{startIn, linkWord, sortWord, flexWord, rigidWord, linkIn, markIn, vertexIn, graphIn, length-graphIn, graph-at, Laid, Shows, start-before}
+use Rattle.graph.specs.Cells.{startIn, linkWord, flexWord, linkIn, markIn, vertexIn, graphIn, length-graphIn, graph-at, Laid, Shows, start-before}
 use Rattle.graph.specs.Links.{word-kept, word-new, laid-word, vertices-kept, head-kept, args-kept, link-of, graph-past, linked-word}
 
 -- two roots, apart
@@ -39,14 +38,14 @@ module _ (words table : List ℕ) (s : Counts) (g : Graph) (S : Shows words tabl
   many = sym (S .like .long) ∙ length-graphIn words table (s .nodes)
 
   -- x is joined to y
-  pub shows-joined : (x y : ℕ) → Apart table s x y → Shows words (set table (5 * x + 1) (suc y)) s (join g x y)
-  shows-joined x y A = record {
+  pub shows-joined : (x y : ℕ) → Apart table s x y → Shows words (set table (5 * x + 1) (y + 1)) s (join g x y)
+  shows-joined x y A = subst (λ (v : ℕ). Shows words (set table (5 * x + 1) v) s (join g x y)) (sym (add-one y)) (record {
     laid = laid-word words table s (S .laid) x 1 (suc y) (A .left) (omega arith) (omega arith);
     like = like-linked (graphIn words table (s .nodes)) g (S .like) (graphIn words (set table (5 * x + 1) (suc y)) (s .nodes)) (join g x y) x y
         (linked-word words table s (S .laid) x y (A .left)) (join-linked g x y (omega (arith, many, A .left)))
         (λ w h. alike-then (vertices-kept words table s (S .laid) x (suc y) (A .left) w (omega (arith, many))) (alike-then (S .like .nodes w h) (alike-back (join-alike g x y (omega (arith, many, A .left)) w))))
         (omega (arith, many, A .left)) (omega (arith, many, A .right)) (link-of words table (s .nodes) x (A .left) ∙ ap linkIn (A .free)) (link-of words table (s .nodes) y (A .right) ∙ ap linkIn (A .bare)) (A .unlike);
-  }
+  })
 
   -- y's flex word becomes m
   module _ (y m : ℕ) (l : y < s .nodes) where

@@ -2,3 +2,5 @@
 pub mod Cells
 pub mod Links
 pub mod Joins
+pub mod Pushes
+pub mod Pairs

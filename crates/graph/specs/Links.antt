@@ -1,18 +1,18 @@
 -- Links: what a word written to a node's row leaves of the graph, and the root that is found.
-use mathlib.Core.Path.{_≡_, refl, sym, ap, subst, _∙_}
+use mathlib.Core.Path.{_≡_, refl, sym, ap, _∙_}
 use mathlib.Core.List.{List, []}
-use mathlib.Core.Option.{Option, none, some}
-use Prim.Native.Nat.{ℕ, zero, suc, _+_, _*_, _-_, _≤_, _<_}
+use mathlib.Core.Option.{some}
+use Prim.Native.Nat.{ℕ, suc, _+_, _*_, _-_, _≤_, _<_}
 use native.Mathlib.Omega.{arith}
 use native.Mathlib.Decide.{decLt}
 use lib.ListN.{length, getD, set, length-set, List·getD-eq-default}
 use lib.Seq.{getD-set-same, getD-set-other}
 use Rattle.definition.specs.Graph.{Vertex, Graph, applied, vertex, root}
 use Rattle.base.specs.Part.{part}
-use Rattle.theory.specs.Unification.Forest.{Forest, root-self, root-along, Linked, depth, shorter-depth}
-use Rattle.theory.specs.Unification.Like.{SameVertex, Like, like-shorter}
+use Rattle.theory.specs.Unification.Forest.{root-self, root-along, Linked, depth, shorter-depth}
+use Rattle.theory.specs.Unification.Like.{SameVertex, like-shorter}
 use Rattle.graph.specs.declared.graph.Graph.{Graph as Counts}
-use Rattle.graph.specs.Cells.{startIn, linkWord, sortWord, flexWord, rigidWord, linkIn, markIn, vertexIn, graphIn, length-graphIn, graph-at, Laid, Shows}
+use Rattle.graph.specs.Cells.{startIn, linkWord, linkIn, markIn, vertexIn, graphIn, length-graphIn, graph-at, Laid, room, Shows}
 
 -- ---- a word of a row, other than where its node starts, becomes v
 module _ (words table : List ℕ) (s : Counts) (L : Laid words table s) (x k v : ℕ) (l : x < s .nodes) (low : 1 ≤ k) (high : k < 5) where
@@ -28,11 +28,11 @@ module _ (words table : List ℕ) (s : Counts) (L : Laid words table s) (x k v :
   word-kept i j h d = getD-set-other table (5 * x + k) (5 * i + j) v 0 (λ e. d (omega (arith, e, low, high, h)) (omega (arith, e, low, high, h)))
 
   pub word-new : getD table′ (5 * x + k) 0 ≡ v
-  word-new = getD-set-same table (5 * x + k) v 0 (omega (arith, L .room, high))
+  word-new = getD-set-same table (5 * x + k) v 0 (omega (arith, room words table s L, high))
 
   pub laid-word : Laid words table′ s
   laid-word = record {
-    room = omega (arith, L .room, length-set table (5 * x + k) v);
+    wide = omega (arith, L .wide, length-set table (5 * x + k) v);
     first = start-kept 0 ∙ L .first;
     rising = λ i h. omega (arith, start-kept i, start-kept (suc i), L .rising i h);
     end = start-kept (s .nodes) ∙ L .end;
@@ -155,7 +155,7 @@ module _ (words before table : List ℕ) (s : Counts) (x at : ℕ) (K : Seeking 
 
   -- the row of a node stands in the table
   pub row-there : 5 * at + 5 ≤ length table
-  row-there = omega (arith, now-held .laid .room, K .there)
+  row-there = omega (arith, room words table s (now-held .laid), K .there)
 
   -- it has no link: it is the root
   pub found-at : linkWord table at ≡ 0 → Found words before table s x at

@@ -1,15 +1,27 @@
 // A graph's nodes: head and arguments of each in the graph's cells, a row of five words each in a table.
+use base::copy::copy_words;
+use base::id::Ground;
 use base::id::Pattern;
 ghost use mathlib.Core.Path.{_≡_};
-ghost use Prim.Native.Nat.{_<_};
-ghost use Rattle.graph.specs.Cells.{linkWord, Laid};
+ghost use mathlib.Core.List.{[]};
+ghost use Prim.Native.Nat.{_+_, _*_, _≤_, _<_};
+ghost use lib.ListN.{length};
+ghost use Rattle.definition.specs.Graph.{variableVertex, applied};
+ghost use Rattle.graph.specs.Cells.{linkWord, markIn, Laid, Shows};
 ghost use Rattle.graph.specs.Links.{Holds, Found};
 ghost use Rattle.graph.specs.Joins.{Apart, Joins, Shares, Binds, HeadOf};
+ghost use Rattle.graph.specs.Pushes.{Rows, Pushes};
 
 // How many nodes there are, and how many cells they take.
 pub struct Graph {
     pub nodes: usize,
     pub used: usize,
+}
+
+// A node more: its number and the graph with it, or that there is no room for it.
+pub enum Pushed {
+    Node(usize, Graph),
+    Short,
 }
 
 impl Graph {
@@ -80,5 +92,79 @@ impl Graph {
     {
         self.share_flex(cells, table, x, y);
         self.join(cells, table, x, y);
+    }
+
+    // No node.
+    pub fn new(cells: &[u32], table: &mut [u32]) -> Graph
+        requires { ⌜ (5 * length (now cells) + 5 ≤ length (now table)) × (length (now cells) < 4294967295) ⌝ }
+        ensures { λ r. ⌜ Shows (now (cells .entry)) (now (table .exit)) r [] ⌝ }
+    {
+        table[0] = 0;
+        Graph { nodes: 0, used: 0 }
+    }
+
+    // The row of the next node, and where the one behind it starts.
+    fn put_row(self, cells: &[u32], table: &mut [u32], sort: u32, flex: u32, rigid: u32, end: usize)
+        requires { ⌜ (5 * self .nodes + 6 ≤ length (now table)) × (end < 4294967296) ⌝ }
+        ensures { λ _. ⌜ Rows (now (table .entry)) (now (table .exit)) self sort flex rigid end ⌝ }
+    {
+        let at = 5 * self.nodes;
+        table[at + 1] = 0;
+        table[at + 2] = sort;
+        table[at + 3] = flex;
+        table[at + 4] = rigid;
+        table[at + 5] = end as u32;
+    }
+
+    // A variable more; a mark is set or 0.
+    pub fn var(
+        self,
+        cells: &mut [u32],
+        table: &mut [u32],
+        sort: u32,
+        flex: u32,
+        rigid: u32,
+    ) -> Pushed
+        requires { ⌜ Laid (now cells) (now table) self ⌝ }
+        ensures { λ r. ⌜ Pushes (now (cells .entry)) (now (cells .exit)) (now (table .entry)) (now (table .exit)) self (variableVertex sort (markIn flex) (markIn rigid)) r ⌝ }
+    {
+        let at = self.used;
+        if cells.len() <= at {
+            return Pushed::Short;
+        }
+        cells[at] = Pattern::VAR;
+        let end = at + 1;
+        self.put_row(cells, table, sort, flex, rigid, end);
+        let n = self.nodes;
+        Pushed::Node(
+            n,
+            Graph {
+                nodes: n + 1,
+                used: end,
+            },
+        )
+    }
+
+    // An application more.
+    pub fn push(self, cells: &mut [u32], table: &mut [u32], head: u32, args: &[u32]) -> Pushed
+        requires { ⌜ Laid (now cells) (now table) self ⌝ }
+        ensures { λ r. ⌜ Pushes (now (cells .entry)) (now (cells .exit)) (now (table .entry)) (now (table .exit)) self (applied head (now (args .entry))) r ⌝ }
+    {
+        let at = self.used;
+        if cells.len() - at <= args.len() {
+            return Pushed::Short;
+        }
+        let end = at + 1 + args.len();
+        cells[at] = head;
+        copy_words(args, &mut cells[at + 1..end]);
+        self.put_row(cells, table, Ground::NONE, 0, 0, end);
+        let n = self.nodes;
+        Pushed::Node(
+            n,
+            Graph {
+                nodes: n + 1,
+                used: end,
+            },
+        )
     }
 }

@@ -1,2 +1,3 @@
 // The term graph in lent cells.
 pub mod graph;
+pub mod pairs;

@@ -1,13 +1,11 @@
 -- What reading alone answers, for every pack and every length of work.
 use mathlib.Core.Path.{_≡_, sym}
 use mathlib.Core.List.{List, []}
-use mathlib.Core.Option.{Option, none, some}
 use Prim.Native.Nat.{ℕ}
 use lib.ListN.{length, replicate}
 use Rattle.definition.specs.Answer.{answer, padded, padded-none}
 use Rattle.definition.specs.Check.{checkLent, CheckLeft}
 use Rattle.definition.specs.declared.Answer.{Answer}
-use Rattle.definition.specs.declared.Refusal.{Refusal}
 use Rattle.call.specs.Outcome.{refusalOf}
 use Rattle.call.specs.Lengths.{lentOf}
 use Rattle.call.specs.Opening.{openingRefusal, Opens, pack-opened}

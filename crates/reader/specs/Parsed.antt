@@ -1,12 +1,12 @@
 -- The whole pack: the tables that represent it, and what reading it answers.
 use mathlib.Core.Path.{_≡_, refl, sym, ap, subst, _∙_}
-use mathlib.Core.List.{List, []}
+use mathlib.Core.List.{List}
 use Prim.Native.Nat.{ℕ, _+_, _-_, _/_, _≤_, _<_}
 use native.Mathlib.Omega.{arith}
 use lib.ListN.{length, getD, take, drop, replicate, length-drop, length-replicate, getD-replicate}
 use Rattle.definition.specs.declared.Refusal.the-variants.{Form, Limit}
 use Rattle.definition.specs.Pack.{Pack, empty}
-use Rattle.definition.specs.Frame.{fine, refuse, records}
+use Rattle.definition.specs.Frame.{fine, refuse}
 use Rattle.definition.specs.Parse.{kinds, takeRecord, parse}
 use Rattle.definition.specs.Laws.Frame.{records-end}
 use Rattle.definition.specs.Laws.Good.{empty-good}
@@ -15,7 +15,7 @@ use Rattle.catalog.specs.Whole.{recordsOf, Fits, Cleared}
 use Rattle.catalog.specs.declared.whole.Catalog.{Catalog}
 use Rattle.pack.specs.Reads.{Reads, read-none}
 use Rattle.horn.specs.Taking.{Reading}
-use Rattle.certificate.specs.Marks.{Marks, marksAt, markOf, Beyond}
+use Rattle.certificate.specs.Marks.{Marks, marksAt, Beyond}
 use Rattle.reader.specs.Walk.{Walking}
 use Rattle.reader.specs.declared.parsed.Parsed.{Parsed}
 use Rattle.reader.specs.declared.parsed.Parsed.the-variants as parsed

@@ -1,17 +1,16 @@
 -- From one record to the next.
-use mathlib.Core.Path.{_≡_, refl, sym, ap, subst, _∙_}
-use mathlib.Core.List.{List, []}
+use mathlib.Core.Path.{_≡_, sym, ap, subst, _∙_}
+use mathlib.Core.List.{List}
 use Prim.Native.Nat.{ℕ, _+_, _-_, _≤_, _<_}
 use native.Mathlib.Omega.{arith}
 use lib.ListN.{length, getD, take, drop, length-drop}
 use lib.Seq.{drop-drop, length-take-le}
-use Rattle.definition.specs.Little.{le}
 use Rattle.definition.specs.declared.Refusal.the-variants.{Form, Limit}
 use Rattle.definition.specs.Pack.{Pack, Node, nodeOf}
-use Rattle.definition.specs.Frame.{Checked, good, bad, over, Read, fine, refuse, Record, record-of, records}
+use Rattle.definition.specs.Frame.{refuse, records}
 use Rattle.definition.specs.Parse.{kinds, takeRecord, parse}
 use Rattle.definition.specs.Good.{Good}
-use Rattle.definition.specs.Laws.Frame.{records-one, records-bad, records-over, records-cut, records-end}
+use Rattle.definition.specs.Laws.Frame.{records-one, records-bad, records-over, records-cut}
 use Rattle.definition.specs.Laws.Good.{record-good}
 use Rattle.base.specs.Part.{part}
 use Rattle.catalog.specs.Place.{Place}

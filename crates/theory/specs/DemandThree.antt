@@ -8,8 +8,8 @@ use native.Mathlib.Omega.{arith}
 use borrow.Author.Tests.{ltb-false}
 use lib.Dec.{ltb}
 use lib.ListN.{length, getD, drop, replicate, length-append, length-map, List·getD-append}
-use lib.Seq.{take-append-seam, drop-append-seam}
-use Rattle.definition.specs.Test.{Is, is, see, never}
+use lib.Seq.{drop-append-seam}
+use Rattle.definition.specs.Test.{is, see, never}
 use Rattle.definition.specs.Pack.{Node, Pack, stepOf}
 use Rattle.definition.specs.Tree.{Tree, Trees, treeOf}
 use Rattle.definition.specs.Frame.{fine}

@@ -1,11 +1,11 @@
 -- Demand 3, of the words that class building writes: what they must say of the pack's bytes.
 use mathlib.Core.Path.{_≡_}
 use mathlib.Core.Bool.{true}
-use mathlib.Core.List.{List, [], _∷_}
-use mathlib.Core.Option.{none, some}
+use mathlib.Core.List.{List}
+use mathlib.Core.Option.{none}
 use Prim.Native.Nat.{ℕ, zero, suc, _<_}
 use lib.Dec.{eqb}
-use lib.ListN.{length, getD, take, drop}
+use lib.ListN.{length, getD, drop}
 use Rattle.definition.specs.Test.{any}
 use Rattle.definition.specs.Pack.{Node, Pack, stepOf}
 use Rattle.definition.specs.Store.{nodesIn}

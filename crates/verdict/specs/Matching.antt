@@ -1,12 +1,11 @@
 -- A rule being matched: its next word, the nodes still to be matched, the values so far.
 use mathlib.Core.Path.{_≡_}
-use mathlib.Core.Bool.{Bool, true, false}
-use mathlib.Core.List.{List, [], _∷_, _++_}
+use mathlib.Core.List.{List, _++_}
 use mathlib.Core.Option.{Option, none, some}
-use Prim.Native.Nat.{ℕ, suc, _+_, _≤_, _<_}
-use lib.ListN.{length, getD, drop}
+use Prim.Native.Nat.{ℕ, suc, _+_, _<_}
+use lib.ListN.{length, drop}
 use Rattle.definition.specs.Pack.{Pack, ruleOf, nodeOf, stepOf}
-use Rattle.definition.specs.Verdict.{Bound, matched}
+use Rattle.definition.specs.Verdict.{Bound}
 use Rattle.definition.specs.Good.{Below}
 use Rattle.base.specs.Stack.{stacked}
 use Rattle.base.specs.declared.stack.Stack.{Stack}

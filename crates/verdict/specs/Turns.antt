@@ -2,18 +2,18 @@
 use mathlib.Core.Path.{_≡_, refl, sym, ap, subst, _∙_}
 use mathlib.Core.Bool.{Bool, true, false}
 use mathlib.Core.List.{List, [], _∷_, _++_}
-use mathlib.Core.Option.{Option, none, some}
+use mathlib.Core.Option.{none, some}
 use Prim.Native.Nat.{ℕ, suc, _+_, _-_, _≤_, _<_}
 use native.Mathlib.Omega.{arith}
 use borrow.Author.Tests.{le-leb, lt-leb, eq-eqb, ne-eqb}
-use lib.Dec.{eqb, leb}
+use lib.Dec.{eqb}
 use lib.ListN.{length, getD, take, drop, replicate, length-append, length-drop, length-replicate, getD-replicate}
 use lib.Seq.{drop-cons}
 use Rattle.definition.specs.Pack.{prop, Pack, Rule, Step, symbolOf, ruleOf, nodeOf, stepOf}
 use Rattle.definition.specs.Certificate.{count}
 use Rattle.definition.specs.Theory.{variable}
 use Rattle.definition.specs.Verdict.{Bound, valueOf, bound, provided, onwards, matched, passes}
-use Rattle.definition.specs.Good.{Below, Good, Few}
+use Rattle.definition.specs.Good.{Below, Good}
 use Rattle.definition.specs.Laws.Grow.{below-more}
 use Rattle.definition.specs.Laws.Agreement.{judged, judged-below}
 use Rattle.definition.specs.Laws.Prefix.{termWords, termsWords, term-length, terms-length}
@@ -25,7 +25,7 @@ use Rattle.pack.specs.Reads.{ruleWords}
 use Rattle.verdict.specs.Held.{Proper}
 use Rattle.verdict.specs.Words.{matchWords, node-many, node-below, against, judgments-sorted, length-judged, passes-words}
 use Rattle.verdict.specs.Pending.{Pending, rule-pending, pending-most, pending-none, word-there, next-variable, next-symbol}
-use Rattle.verdict.specs.Values.{valueIn, Values, Binds}
+use Rattle.verdict.specs.Values.{valueIn, Binds}
 use Rattle.verdict.specs.Matching.{Matching, Ready, rest}
 
 -- a rule has at most 256 words and 64 variables

@@ -1,15 +1,14 @@
 -- A rule's words against nodes, word by word, with a stack of the nodes still to be matched: the same as the definition's matching.
 use mathlib.Core.Path.{_≡_, refl, sym, ap, _∙_}
 use mathlib.Core.Bool.{Bool, true, false}
-use mathlib.Core.List.{List, [], _∷_, _++_, map, append-nil, append-assoc}
+use mathlib.Core.List.{List, [], _∷_, _++_, append-nil, append-assoc}
 use mathlib.Core.Option.{Option, none, some}
-use Prim.Native.Nat.{ℕ, suc, _+_, _-_, _<_, _≤_}
+use Prim.Native.Nat.{ℕ, suc, _+_, _-_, _<_}
 use native.Mathlib.Omega.{arith}
 use borrow.Author.Tests.{le-leb, lt-leb, eqb-true}
 use lib.Dec.{eqb, leb}
 use lib.ListN.{length, replicate, length-replicate}
-use Rattle.definition.specs.Test.{is, see}
-use Rattle.definition.specs.Pack.{prop, Term, Terms, var, app, nil, cons, Rule, Node, Step, Pack, symbolOf, ruleOf, nodeOf, stepOf}
+use Rattle.definition.specs.Pack.{prop, Term, Terms, var, app, nil, cons, Rule, Step, Pack, symbolOf, ruleOf, nodeOf, stepOf}
 use Rattle.definition.specs.Theory.{variable}
 use Rattle.definition.specs.Certificate.{count}
 use Rattle.definition.specs.Verdict.{Bound, valueOf, bound, provided, onwards, matches, matchAll, matched, passes}

@@ -10,7 +10,6 @@ ghost use mathlib.Core.Path.{_≡_};
 ghost use Prim.Native.Nat.{_+_, _<_, _≤_};
 ghost use lib.ListN.{length};
 ghost use Rattle.definition.specs.Pack.{nodeOf, stepOf};
-ghost use Rattle.catalog.specs.Whole.{recordsOf};
 ghost use Rattle.verdict.specs.Held.{Held};
 ghost use Rattle.verdict.specs.Matching.{ArgumentsOn, JudgmentsOn};
 

@@ -1,5 +1,5 @@
 //! Recorded packs with one thing changed: a field, a name's byte, a body's length, a record.
-use crate::reads::Trial;
+use crate::trial::Trial;
 use certpack::pack::{self, Pack, VARIABLE};
 use std::ops::Range;
 
@@ -11,13 +11,13 @@ const MOST: usize = 200;
 const RECORDS: usize = 100;
 
 /// A record in a good pack: where it stands, and how many bytes of it are its name.
-struct Record {
-    at: Range<usize>,
-    name: usize,
+pub struct Record {
+    pub at: Range<usize>,
+    pub name: usize,
 }
 
 #[derive(Clone, Copy, Debug)]
-enum Edit {
+pub enum Edit {
     /// The field at this place, of so many bytes, gets this value.
     Field {
         place: usize,
@@ -81,7 +81,7 @@ pub fn check(trial: &mut Trial, bytes: &[u8]) -> Result<usize, String> {
 }
 
 /// The records of a good pack.
-fn records(bytes: &[u8], pack: &Pack) -> Vec<Record> {
+pub fn records(bytes: &[u8], pack: &Pack) -> Vec<Record> {
     let sorts = pack.sorts.iter().map(String::len);
     let symbols = pack.symbols.iter().map(|symbol| symbol.name.len());
     let rules = pack.rules.iter().map(|rule| rule.name.len());
@@ -106,7 +106,7 @@ fn records(bytes: &[u8], pack: &Pack) -> Vec<Record> {
 }
 
 /// The field at a place, of 1, 2 or 4 bytes.
-fn get(bytes: &[u8], place: usize, width: usize) -> u32 {
+pub fn get(bytes: &[u8], place: usize, width: usize) -> u32 {
     let field = bytes[place..place + width].iter().rev();
     field.fold(0, |value, &byte| value << 8 | u32::from(byte))
 }
@@ -167,7 +167,7 @@ fn new_values(trial: &mut Trial, bytes: &[u8], place: usize, width: usize, edits
 }
 
 impl Edit {
-    fn apply(self, bytes: &[u8], records: &[Record]) -> Vec<u8> {
+    pub fn apply(self, bytes: &[u8], records: &[Record]) -> Vec<u8> {
         let at = |record: usize| records[record].at.clone();
         let mut out = bytes.to_vec();
         match self {

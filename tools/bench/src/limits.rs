@@ -2,32 +2,18 @@
 //! its forms. The answers are written from its words (and docs/DECISIONS.md, R6 to R18),
 //! so that neither the library nor certpack is trusted with them.
 use crate::forms;
-use crate::read::work_for;
-use crate::reads::{Trial, certpack, kept};
 use crate::records::{halves, plain, record, rule, sort, symbol, words};
 use crate::tries::*;
 use certpack::pack::PREDICATE;
 
-pub fn check(trial: &mut Trial) -> Result<usize, String> {
+pub fn tries() -> Tries {
     let mut tries = Tries::default();
     counts(&mut tries);
     symbols(&mut tries);
     rules(&mut tries);
     prefix(&mut tries);
     forms::add(&mut tries);
-    for Try { what, pack, wanted } in &tries.0 {
-        let from_certpack = certpack(pack);
-        if from_certpack != *wanted {
-            return Err(format!(
-                "{what}: certpack says {from_certpack}, document 01 {wanted}; {}",
-                kept(pack)
-            ));
-        }
-        trial
-            .wants(pack, work_for(pack.len()), "document 01", *wanted)
-            .map_err(|why| format!("{what}: {why}"))?;
-    }
-    Ok(tries.0.len())
+    tries
 }
 
 /// So many records, the name of each from its number.

@@ -1,5 +1,7 @@
 //! bench: the library's archives timed beside the Rust original and by themselves, and
 //! held against the recorded vectors and certpack. build.rs brings them in.
+mod check_pace;
+mod checks;
 mod edits;
 mod forms;
 #[cfg(feature = "original")]
@@ -18,7 +20,10 @@ mod records;
 #[allow(dead_code)]
 #[path = "../../oracle/src/stand_in/mod.rs"]
 mod stand_in;
+mod trial;
 mod tries;
+mod verdicts;
+mod wrong;
 
 // The names that the original's files call these by.
 #[cfg(feature = "original")]
@@ -44,12 +49,20 @@ bench: the library beside the Rust original
   bench reads FOLDER      read every recorded pack of FOLDER, its truncations and
                           edits, and packs at each limit in the library; check the
                           answers beside certpack's, and that work is cleared
+  bench check             time the check of generated packs, up to 100,000 steps, in
+                          the library
+  bench check --quick     up to 10,000 steps and fewer rounds, for tests
+  bench checks FOLDER     check the steps and goals of every recorded pack of FOLDER,
+                          the same with wrong steps and goals, and written packs in
+                          the library; check the answers beside the recorded ones,
+                          certpack's and document 01's, and that work is cleared
   bench --help            this page
 
 `bench intern` wants a build with the feature `original`.
-Exit status: 0 done; 1 a difference, a fault in the input, or a full `bench read` in
-which reading a byte of a largest pack takes over 3 times as long as one of a smallest,
-said in one line on standard error; 2 a wrong call.
+Exit status: 0 done; 1 a difference, a fault in the input, a full `bench read` in which
+reading a byte of a largest pack takes over 3 times as long as one of a smallest, or a
+full `bench check` in which checking a step takes over 5 times as long, said in one line
+on standard error; 2 a wrong call.
 ";
 
 fn main() -> ExitCode {
@@ -65,6 +78,9 @@ fn run(args: &[&str]) -> Result<String, Fault> {
         ["reads", folder] => Ok(reads::check(folder)?),
         ["read"] => Ok(pace::report(false)?),
         ["read", "--quick"] => Ok(pace::report(true)?),
+        ["checks", folder] => Ok(checks::check(folder)?),
+        ["check"] => Ok(check_pace::report(false)?),
+        ["check", "--quick"] => Ok(check_pace::report(true)?),
         _ => Err(cli::unknown(args)),
     }
 }

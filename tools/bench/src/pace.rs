@@ -36,6 +36,20 @@ const KINDS: [Kind; 3] = [
     },
 ];
 
+/// One that reads, and one that is refused for its work and only clears.
+const CALLS: [Call; 2] = [
+    Call {
+        library: parse,
+        less: 0,
+        wanted: GOOD,
+    },
+    Call {
+        library: parse,
+        less: 1,
+        wanted: SHORT,
+    },
+];
+
 const NOTES: &str = "
 Nanoseconds a byte of the pack, medians over the rounds. A round reads as many bytes
 whatever the size, each pack in memory of its own and with the least work, 64 bytes a
@@ -78,9 +92,11 @@ pub fn report(quick: bool) -> Result<String, String> {
         for size in SIZES.into_iter().filter(|&size| size <= most) {
             let pack = (kind.make)(size).encode();
             let calls = most / size;
-            let timed = |places| {
-                measure(&pack, places, calls, rounds)
-                    .map_err(|why| format!("{}, {size} bytes: {why}", kind.name))
+            let timed = |places| -> Result<Times, String> {
+                let times = measure(&pack, places, calls, rounds, &CALLS)
+                    .map_err(|why| format!("{}, {size} bytes: {why}", kind.name))?;
+                let [whole, clearing] = times.map(|times| median(times) / pack.len() as f64);
+                Ok(Times { whole, clearing })
             };
             rows.push(Row {
                 kind: kind.name,
@@ -102,41 +118,53 @@ pub fn report(quick: bool) -> Result<String, String> {
     ))
 }
 
-/// Times so many calls, over packs and work at so many places. The two sorts of call
-/// take turns, half of all places apart, so that both find the caches alike.
-fn measure(pack: &[u8], places: usize, calls: usize, rounds: usize) -> Result<Times, String> {
+/// A sort of call: with so many words of work less than the least it gives this answer.
+pub struct Call {
+    pub library: fn(&[u8], &mut [u32]) -> Answer,
+    pub less: usize,
+    pub wanted: Answer,
+}
+
+/// Times so many calls of each sort, over packs and work at so many places; answers the
+/// nanoseconds that a call takes in each round. The sorts take turns, far apart among the
+/// places, so that all find the caches alike.
+pub fn measure<const N: usize>(
+    pack: &[u8],
+    places: usize,
+    calls: usize,
+    rounds: usize,
+    sorts: &[Call; N],
+) -> Result<[Vec<f64>; N], String> {
     let packs = pack.repeat(places);
     let words = work_for(pack.len());
     let mut work = vec![1; places * words];
-    let mut timed = |place: usize, lent: usize, wanted: Answer| -> Result<Duration, String> {
+    let mut timed = |place: usize, sort: &Call| -> Result<Duration, String> {
         let pack = &packs[place * pack.len()..][..pack.len()];
-        let work = &mut work[place * words..][..lent];
+        let work = &mut work[place * words..][..words - sort.less];
         let start = Instant::now();
-        let answer = parse(black_box(pack), work);
+        let answer = (sort.library)(black_box(pack), work);
         let time = start.elapsed();
-        match answer == wanted {
+        match answer == sort.wanted {
             true => Ok(time),
-            false => Err(format!("the library says {answer}, not {wanted}")),
+            false => Err(format!("the library says {answer}, not {}", sort.wanted)),
         }
     };
-    let a_byte = |time: Duration| time.as_nanos() as f64 / (calls * pack.len()) as f64;
-    let (mut wholes, mut clearings) = (Vec::new(), Vec::new());
+    let mut times = [const { Vec::new() }; N];
     // The first round is not counted: in it all memory is made to be there.
     for round in 0..=rounds {
-        let (mut whole, mut clearing) = (Duration::ZERO, Duration::ZERO);
+        let mut sums = [Duration::ZERO; N];
         for i in 0..calls {
-            whole += timed(i % places, words, GOOD)?;
-            clearing += timed((i + places / 2) % places, words - 1, SHORT)?;
+            for (k, sort) in sorts.iter().enumerate() {
+                sums[k] += timed((i + k * places / N) % places, sort)?;
+            }
         }
         if round > 0 {
-            wholes.push(a_byte(whole));
-            clearings.push(a_byte(clearing));
+            for (times, sum) in times.iter_mut().zip(sums) {
+                times.push(sum.as_nanos() as f64 / calls as f64);
+            }
         }
     }
-    Ok(Times {
-        whole: median(wholes),
-        clearing: median(clearings),
-    })
+    Ok(times)
 }
 
 fn table(rows: &[Row], rounds: usize) -> String {

@@ -1,4 +1,5 @@
-//! The C face of the library's reader of packs.
+//! The C faces of the library's reader of packs and of its step check.
+use certpack::pack::Refusal;
 
 /// What a call says: 0 at 0 of a good pack, else document 01's number and place.
 #[repr(C)]
@@ -20,14 +21,30 @@ impl std::fmt::Display for Answer {
     }
 }
 
+impl From<Refusal> for Answer {
+    fn from(refusal: Refusal) -> Self {
+        Answer {
+            code: refusal.number.into(),
+            place: refusal.place as u64,
+        }
+    }
+}
+
 unsafe extern "C" {
     fn parse_pack(pack: *const u8, pack_len: usize, work: *mut u32, work_len: usize) -> Answer;
+    fn cert_check(pack: *const u8, pack_len: usize, work: *mut u32, work_len: usize) -> Answer;
 }
 
 /// Read a pack and forget it. Work is all zeros behind the call.
 pub fn parse(pack: &[u8], work: &mut [u32]) -> Answer {
     // SAFETY: two slices, each with its own length; as references they can't overlap.
     unsafe { parse_pack(pack.as_ptr(), pack.len(), work.as_mut_ptr(), work.len()) }
+}
+
+/// Read a pack and judge its steps and goals. Work is all zeros behind the call.
+pub fn check(pack: &[u8], work: &mut [u32]) -> Answer {
+    // SAFETY: as above.
+    unsafe { cert_check(pack.as_ptr(), pack.len(), work.as_mut_ptr(), work.len()) }
 }
 
 /// The least words of work for a pack of so many bytes.

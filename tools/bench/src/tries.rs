@@ -13,18 +13,24 @@ pub struct Try {
 pub struct Tries(pub Vec<Try>);
 
 impl Tries {
+    /// These records get this answer.
+    pub fn answer(&mut self, what: &str, wanted: Answer, records: &[Vec<u8>]) {
+        self.0.push(Try {
+            what: what.into(),
+            pack: records.concat(),
+            wanted,
+        });
+    }
+
     /// These records; the one with this number gets the code.
     pub fn at(&mut self, what: &str, code: u64, number: usize, records: &[Vec<u8>]) {
         let place: usize = records[..number].iter().map(Vec::len).sum();
         let place = place as u64;
-        self.0.push(Try {
-            what: what.into(),
-            pack: records.concat(),
-            wanted: match code {
-                0 => GOOD,
-                _ => Answer { code, place },
-            },
-        });
+        let wanted = match code {
+            0 => GOOD,
+            _ => Answer { code, place },
+        };
+        self.answer(what, wanted, records);
     }
 
     /// The front up to a kind, then these; the last gets the code.

@@ -8,7 +8,7 @@ use borrow.Author.Tests.{eqb-true}
 use lib.Dec.{eqb}
 use lib.ListN.{length, getD, length-append, List·getD-append}
 use lib.Seq.{getD-at}
-use Rattle.definition.specs.Test.{Is, is, see, tests, any}
+use Rattle.definition.specs.Test.{is, see, tests, any}
 use Rattle.definition.specs.Pack.{prop, Node, Pack}
 use Rattle.definition.specs.Tree.{Tree}
 use Rattle.definition.specs.Good.{Good}

@@ -6,7 +6,7 @@ use mathlib.Core.Option.{Option, none, some}
 use Prim.Native.Nat.{ℕ, _<_, _≤_}
 use native.Mathlib.Omega.{arith}
 use lib.ListN.{length, getD}
-use Rattle.definition.specs.Test.{Is, is}
+use Rattle.definition.specs.Test.{is}
 use Rattle.definition.specs.Pack.{prop, Term, Terms, var, app, nil, cons, Node, Pack, symbolOf}
 use Rattle.definition.specs.Tree.{Tree, tree, tree-then, turn, turns}
 use Rattle.definition.specs.Good.{Below, Sorted, SortedAll, Few}

@@ -2,13 +2,13 @@
 use mathlib.Core.Path.{_≡_, refl, sym, ap, ap₂, _∙_, subst}
 use mathlib.Core.Bool.{Bool, true, false, not}
 use mathlib.Core.List.{List, [], _∷_, _++_, map}
-use mathlib.Core.Option.{Option, none, some}
+use mathlib.Core.Option.{Option, some}
 use Prim.Native.Nat.{ℕ, zero, suc, _<_}
 use native.Mathlib.Omega.{arith}
 use lib.ListN.{length, getD}
 use Rattle.definition.specs.Test.{never, all}
 use Rattle.definition.specs.Pack.{prop, Terms, nil, cons, Rule, noNode, Pack, ruleOf, stepOf}
-use Rattle.definition.specs.Tree.{Tree, tree-then, turn, turns, trees}
+use Rattle.definition.specs.Tree.{Tree, tree-then, turn, turns}
 use Rattle.definition.specs.Verdict.{Bound, judgments, Accepted}
 use Rattle.definition.specs.Good.{Below, Judgments, GoodRule, Good, Once, Few}
 use Rattle.definition.specs.Laws.Grow.{below-more}

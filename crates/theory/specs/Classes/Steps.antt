@@ -6,7 +6,7 @@ use Prim.Native.Nat.{ℕ, zero, suc, _<_}
 use native.Mathlib.Decide.{decLt}
 use native.Mathlib.Omega.{arith}
 use lib.ListN.{length, getD, List·getD-eq-default}
-use Rattle.definition.specs.Test.{Is, is, see, never, any}
+use Rattle.definition.specs.Test.{is, see, never, any}
 use Rattle.definition.specs.Pack.{prop, Term, Terms, var, app, nil, cons, Step, Result, Pack, noStep, symbolOf, ruleOf, nodeOf, stepOf, sortOf}
 use Rattle.definition.specs.Tree.{Tree, Trees, tree, no-trees, tree-then, pick, trees, treeOf, turn, turns}
 use Rattle.definition.specs.Good.{Below, Sorted, SortedAll, Judgments, Arguments, Good}

@@ -9,7 +9,7 @@ use borrow.Author.Tests.{eqb-true, eq-eqb}
 use lib.Dec.{eqb}
 use lib.ListN.{length, getD, length-map, List·getD-append}
 use lib.Seq.{getD-at}
-use Rattle.definition.specs.Test.{Is, is, see, never, tests}
+use Rattle.definition.specs.Test.{is, see, never, tests}
 use Rattle.definition.specs.Pack.{Pack}
 use Rattle.definition.specs.Tree.{Tree}
 use Rattle.definition.specs.Good.{Below}

@@ -8,13 +8,13 @@ use native.Mathlib.Omega.{arith}
 use borrow.Author.Tests.{eqb-true, eq-eqb}
 use lib.Dec.{eqb}
 use lib.ListN.{length, getD, set, List·getD-append}
-use Rattle.definition.specs.Test.{Is, is, see, never, any, _and_, and-parts, same, same-true, same-refl}
+use Rattle.definition.specs.Test.{is, see, never, any, _and_, and-parts, same, same-true, same-refl}
 use Rattle.definition.specs.Pack.{Pack, stepOf}
 use Rattle.definition.specs.Good.{Below, Good}
 use Rattle.definition.specs.Store.{nothing}
 use Rattle.definition.specs.Graph.{upTo}
 use Rattle.definition.specs.Classes.{countOf}
-use Rattle.definition.specs.Keys.{firstOf, predicateOf, isCut, Key, cutKey, ruleKey, sameKey, Keyed, noKeyed, classIn, keyOf, oneMore, needed}
+use Rattle.definition.specs.Keys.{firstOf, predicateOf, isCut, Key, cutKey, ruleKey, sameKey, Keyed, noKeyed, classIn, keyOf, oneMore}
 use Rattle.theory.specs.Keys.Needed.{first-earlier}
 
 pub same-key : (k l : Key) → sameKey k l ≡ true → k ≡ l

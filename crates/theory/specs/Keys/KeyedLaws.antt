@@ -9,7 +9,7 @@ use borrow.Author.Tests.{eqb-true, eqb-false}
 use lib.Dec.{eqb}
 use lib.ListN.{length, getD, set, length-append, length-set, List·getD-append}
 use lib.Seq.{getD-at, getD-set-same, getD-set-other}
-use Rattle.definition.specs.Test.{Is, is, see, never, tests, any}
+use Rattle.definition.specs.Test.{is, see, never, tests, any}
 use Rattle.definition.specs.Pack.{Pack, stepOf}
 use Rattle.definition.specs.Good.{Good}
 use Rattle.definition.specs.Laws.Grow.{below-more}

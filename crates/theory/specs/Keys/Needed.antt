@@ -7,9 +7,9 @@ use native.Mathlib.Omega.{arith}
 use borrow.Author.Tests.{eqb-true, eq-eqb}
 use lib.Dec.{eqb}
 use lib.ListN.{length, getD}
-use Rattle.definition.specs.Test.{Is, is, see, never, tests, any}
+use Rattle.definition.specs.Test.{is, see, never, tests, any}
 use Rattle.definition.specs.Pack.{Step, Pack, noStep, stepOf}
-use Rattle.definition.specs.Keys.{firstWith, firstOf, needs, neededBelow, needed}
+use Rattle.definition.specs.Keys.{firstWith, firstOf, needs, neededBelow}
 
 -- the first step with a judgment, where there is one: it has it, and none before it
 pub record FirstWith (j : ℕ) (ss : List Step) (i f : ℕ) : Type 0 where

@@ -7,7 +7,7 @@ use native.Mathlib.Omega.{arith}
 use borrow.Author.Tests.{eqb-true}
 use lib.Dec.{eqb}
 use lib.ListN.{length}
-use Rattle.definition.specs.Test.{Is, is, see, never, tests, any}
+use Rattle.definition.specs.Test.{is, see, never, tests, any}
 use Rattle.definition.specs.Pack.{Pack}
 use Rattle.definition.specs.Good.{Good}
 use Rattle.definition.specs.Graph.{upTo}

@@ -5,7 +5,7 @@ use mathlib.Core.Option.{none, some}
 use Prim.Native.Nat.{ℕ, zero, suc, _<_}
 use native.Mathlib.Omega.{arith}
 use lib.ListN.{length}
-use Rattle.definition.specs.Test.{Is, is, see}
+use Rattle.definition.specs.Test.{is, see}
 use Rattle.definition.specs.Pack.{Node, Pack}
 use Rattle.definition.specs.Tree.{treeOf}
 use Rattle.definition.specs.Verdict.{Bound}

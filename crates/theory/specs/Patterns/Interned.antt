@@ -3,17 +3,16 @@ use mathlib.Core.Path.{_≡_, refl, sym, ap, _∙_}
 use mathlib.Core.Bool.{true, false}
 use mathlib.Core.List.{List, [], _∷_, _++_, append-assoc, append-nil}
 use mathlib.Core.Option.{none, some}
-use Prim.Native.Nat.{ℕ, zero, suc, _+_, _<_, _≤_}
+use Prim.Native.Nat.{ℕ, _+_, _<_, _≤_}
 use native.Mathlib.Omega.{arith}
-use borrow.Author.Tests.{eqb-true, eq-eqb}
+use borrow.Author.Tests.{eqb-true}
 use lib.Dec.{eqb}
 use lib.ListN.{length, getD, length-append, List·getD-append}
 use lib.Seq.{getD-at}
-use Rattle.definition.specs.Test.{Is, is, see, never, tests, _and_, and-parts, same, same-true, same-refl}
+use Rattle.definition.specs.Test.{is, see, tests}
 use Rattle.definition.specs.Pack.{Node, noNode}
-use Rattle.definition.specs.Certificate.{sameNode}
 use Rattle.definition.specs.Good.{Below}
-use Rattle.definition.specs.Laws.Store.{same-node, node-same, place-found, place-none, StoreOnce}
+use Rattle.definition.specs.Laws.Store.{place-found, place-none, StoreOnce}
 use Rattle.definition.specs.Store.{isVariable, below, placeOf, Stored, intern}
 use Rattle.definition.specs.Tree.{Tree, Trees, tree, no-trees, tree-then}
 use Rattle.definition.specs.Analysis.{StoredAll, lift, liftAll}

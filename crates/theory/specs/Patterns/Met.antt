@@ -8,7 +8,7 @@ use native.Mathlib.Omega.{arith}
 use borrow.Author.Tests.{lt-ltb, le-ltb, eq-eqb}
 use lib.Dec.{eqb, ltb}
 use lib.ListN.{length, getD, length-append}
-use Rattle.definition.specs.Test.{Is, is, see, never, all, and-parts}
+use Rattle.definition.specs.Test.{is, see, never, all, and-parts}
 use Rattle.definition.specs.Pack.{Term, Terms, var, app, nil, cons, Node, noNode, Pack}
 use Rattle.definition.specs.Verdict.{Bound}
 use Rattle.definition.specs.Good.{Below}

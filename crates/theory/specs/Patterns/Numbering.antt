@@ -9,7 +9,7 @@ use borrow.Author.Tests.{eqb-true, eq-eqb}
 use lib.Dec.{eqb}
 use lib.ListN.{length, getD, length-append, List·getD-append}
 use lib.Seq.{getD-at}
-use Rattle.definition.specs.Test.{Is, is, see, never, tests, all, and-parts}
+use Rattle.definition.specs.Test.{is, see, never, tests, all, and-parts}
 use Rattle.definition.specs.Pack.{Node, Pack, symbolOf}
 use Rattle.definition.specs.Verdict.{Bound}
 use Rattle.definition.specs.Good.{Below}

@@ -8,7 +8,7 @@ use native.Mathlib.Omega.{arith}
 use borrow.Author.Tests.{eqb-true, eq-eqb}
 use lib.Dec.{eqb}
 use lib.ListN.{length, getD}
-use Rattle.definition.specs.Test.{_and_, Is, is, see, any, all, and-parts}
+use Rattle.definition.specs.Test.{_and_, is, see, any, all, and-parts}
 use Rattle.definition.specs.Pack.{Node, noNode, Pack}
 use Rattle.definition.specs.Tree.{Tree, turn}
 use Rattle.definition.specs.Verdict.{Bound}

@@ -9,7 +9,7 @@ use borrow.Author.Tests.{eqb-true, eq-eqb}
 use lib.Dec.{eqb}
 use lib.ListN.{length, getD, length-append}
 use lib.Seq.{getD-at}
-use Rattle.definition.specs.Test.{Is, is, see, never, all, and-parts}
+use Rattle.definition.specs.Test.{is, see, never, all, and-parts}
 use Rattle.definition.specs.Pack.{Terms, cons, Node, noNode, Pack}
 use Rattle.definition.specs.Tree.{Tree, tree, tree-then, treeOf, turn, turns}
 use Rattle.definition.specs.Verdict.{Bound}

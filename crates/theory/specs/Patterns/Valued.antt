@@ -8,7 +8,7 @@ use native.Mathlib.Omega.{arith}
 use borrow.Author.Tests.{eqb-true, eq-eqb}
 use lib.Dec.{eqb}
 use lib.ListN.{length}
-use Rattle.definition.specs.Test.{Is, is, see, never, all, and-parts}
+use Rattle.definition.specs.Test.{is, see, never, all, and-parts}
 use Rattle.definition.specs.Pack.{Pack, nodeOf}
 use Rattle.definition.specs.Tree.{Tree, pick, trees, treeOf}
 use Rattle.definition.specs.Good.{Below, Good, Once}

@@ -7,7 +7,7 @@ use Prim.Native.Nat.{ℕ, zero, suc}
 use borrow.Author.Tests.{eqb-true, eq-eqb}
 use lib.Dec.{eqb}
 use lib.ListN.{length}
-use Rattle.definition.specs.Test.{Is, is, see, never, all}
+use Rattle.definition.specs.Test.{is, see, never, all}
 use Rattle.definition.specs.Pack.{Pack, nodeOf}
 use Rattle.definition.specs.Tree.{Tree, turns}
 use Rattle.definition.specs.Verdict.{Bound, valueOf, provided}

@@ -6,7 +6,7 @@ use mathlib.Core.Option.{none, some}
 use Prim.Native.Nat.{ℕ, zero, suc, _<_, _≤_}
 use native.Mathlib.Omega.{arith}
 use lib.ListN.{length}
-use Rattle.definition.specs.Test.{Is, is, see, never, tests, all, _and_, and-parts}
+use Rattle.definition.specs.Test.{is, see, never, all, _and_, and-parts}
 use Rattle.definition.specs.Pack.{Pack}
 use Rattle.definition.specs.Tree.{Tree, tree, tree-then, noTree}
 use Rattle.definition.specs.Good.{Below}

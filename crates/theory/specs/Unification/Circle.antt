@@ -1,13 +1,13 @@
 -- A graph with a solution has no circle: along arguments trees get smaller, so a term ends within as many levels as there are nodes.
 use mathlib.Core.Path.{_≡_, refl, sym, ap, _∙_}
-use mathlib.Core.Bool.{Bool, true, false, not}
+use mathlib.Core.Bool.{Bool, true, false}
 use mathlib.Core.List.{List, [], _∷_, _++_}
 use Prim.Native.Nat.{ℕ, zero, suc, _+_, _<_, _≤_}
 use native.Mathlib.Omega.{arith}
 use borrow.Author.Tests.{lt-ltb, le-ltb, ltb-true, eqb-true, eq-eqb, not-false}
 use lib.Dec.{eqb, ltb}
 use lib.ListN.{length, length-append}
-use Rattle.definition.specs.Test.{Is, is, see, never, tests, all, any, _and_, and-parts}
+use Rattle.definition.specs.Test.{is, see, never, tests, all, any, _and_, and-parts}
 use Rattle.definition.specs.Pack.{Pack}
 use Rattle.definition.specs.Tree.{Tree, Trees, tree, no-trees, tree-then}
 use Rattle.definition.specs.Good.{Below}

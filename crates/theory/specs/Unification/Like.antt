@@ -3,7 +3,7 @@ use mathlib.Core.Path.{_≡_, refl, sym, ap, _∙_}
 use mathlib.Core.Bool.{Bool}
 use mathlib.Core.List.{List, [], _∷_, _++_}
 use mathlib.Core.Option.{none, some}
-use Prim.Native.Nat.{ℕ, zero, suc, _≤_, _<_}
+use Prim.Native.Nat.{ℕ, zero, suc, _<_}
 use native.Mathlib.Omega.{arith}
 use native.Mathlib.Decide.{decLt, ℕ-discrete}
 use lib.ListN.{length, set, length-append, length-set, List·getD-append}
@@ -176,7 +176,7 @@ join-linked g x y l = record {
   there = λ z d. ap (λ (v : Vertex). v .link) (placed-there g x (linkTo (vertex g x) y) l z d);
 }
 
-same-vertex : (v : Vertex) → SameVertex v v
+pub same-vertex : (v : Vertex) → SameVertex v v
 same-vertex v = record { head = refl; args = refl; sort = refl; flex = refl; rigid = refl }
 
 pub join-alike : (g : Graph) (x y : ℕ) → x < length g → (w : ℕ) → SameVertex (vertex (join g x y) w) (vertex g w)

@@ -5,7 +5,7 @@ use mathlib.Core.Option.{none, some}
 use Prim.Native.Nat.{ℕ, suc, _+_, _<_, _≤_}
 use native.Mathlib.Omega.{arith}
 use lib.ListN.{length}
-use Rattle.definition.specs.Test.{Is, is, see}
+use Rattle.definition.specs.Test.{is, see}
 use Rattle.definition.specs.Pack.{Pack}
 use Rattle.definition.specs.Graph.{Vertex, Graph, vertex, unify}
 use Rattle.theory.specs.Unification.Solve.{sortAt, Formed, openCells, SameNodes, Begins}

@@ -5,7 +5,7 @@ use mathlib.Core.List.{List, [], _∷_}
 use mathlib.Core.Option.{none}
 use Prim.Native.Nat.{ℕ, zero, suc, _<_}
 use lib.ListN.{length}
-use Rattle.definition.specs.Test.{Is, is, see, never, all, and-parts}
+use Rattle.definition.specs.Test.{is, see, never, all, and-parts}
 use Rattle.definition.specs.Pack.{Pack, symbolOf}
 use Rattle.definition.specs.Tree.{Tree, tree}
 use Rattle.definition.specs.Good.{Below}

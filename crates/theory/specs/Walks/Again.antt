@@ -5,9 +5,8 @@ use mathlib.Core.List.{List, [], _∷_, _++_}
 use mathlib.Core.Option.{none, some}
 use Prim.Native.Nat.{ℕ, suc, _+_}
 use native.Mathlib.Omega.{arith}
-use borrow.Author.Tests.{eq-eqb}
 use lib.ListN.{length}
-use Rattle.definition.specs.Test.{is, see, never, _and_, same-refl}
+use Rattle.definition.specs.Test.{is, see, never}
 use Rattle.definition.specs.Pack.{Node}
 use Rattle.definition.specs.Certificate.{sameNode}
 use Rattle.definition.specs.Laws.Store.{node-same}

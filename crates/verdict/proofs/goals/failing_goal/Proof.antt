@@ -2,10 +2,7 @@
 use borrow.Author.Needs.{needs}
 use Prim.Native.Nat.{_-_, _≤_}
 use native.Mathlib.Omega.{arith}
-use lib.ListN.{length}
-use Rattle.definition.specs.Pack.{Pack}
 use Rattle.definition.specs.Verdict.{noGoal, met}
-use Rattle.catalog.specs.declared.whole.Catalog.{Catalog}
 use Rattle.pack.specs.Reads.{length-goals}
 use Rattle.verdict.specs.First.{LeftFrom, left-all, left-on, left-at, left-end}
 use Rattle.verdict.specs.Goals.{goal-given}

@@ -1,7 +1,7 @@
 -- `Graph::head` meets its contract.
-use borrow.Author.Needs.{needs}
 use Prim.Native.Nat.{_*_}
 use native.Mathlib.Omega.{arith}
+use Rattle.graph.specs.Cells.{room}
 use Rattle.graph.specs.Joins.{head-there, head-of}
 use Rattle.graph.proofs.graph.Graph.head.Statement.{statement}
 use Rattle.graph.proofs.graph.Graph.head.Tie as tie
@@ -16,9 +16,9 @@ pub head-spec : {M : Type 1} → statement M
 head-spec =
     tie.close
     (tie.spec
-    (λ c. omega (arith, c .pre .0 .room, c .pre .1))
-    (λ c. omega (arith, c .pre .0 .room, c .pre .1))
-    (λ c. omega (arith, c .before .pre .0 .room, c .before .pre .1))
+    (λ c. omega (arith, room _ _ _ (c .pre .0), c .pre .1))
+    (λ c. omega (arith, room _ _ _ (c .pre .0), c .pre .1))
+    (λ c. omega (arith, room _ _ _ (c .before .pre .0), c .before .pre .1))
     (λ c. omega (arith, c .shared-slice-known .given (5 * c .before .args .x)))
     (λ c. let h = head-there _ _ _ (c .before .pre .0) _ (c .before .pre .1) in omega (arith, c .before .pre .0 .small))
     read-fits

@@ -1,6 +1,7 @@
 -- `Graph::share_flex` meets its contract.
 use borrow.Author.Needs.{needs}
 use native.Mathlib.Omega.{arith}
+use Rattle.graph.specs.Cells.{room}
 use Rattle.graph.specs.Links.{laid-word}
 use Rattle.graph.specs.Joins.{shares-none, shares-same, shares-flex, apart-flexed, head-variable, head-other}
 use Rattle.graph.proofs.graph.Graph.share_flex.Statement.{statement}
@@ -27,15 +28,15 @@ share-flex-spec =
     (λ c κs. (c .before .before .before .pre .0, c .before .before .before .pre .1 .right))
     (λ c. search needs)
     returns
-    (λ c. omega (arith, c .before .before .before .before .before .pre .0 .room, c .before .before .before .before .before .pre .1 .left))
-    (λ c. omega (arith, c .before .before .before .before .before .pre .0 .room, c .before .before .before .before .before .pre .1 .left))
-    (λ c. omega (arith, c .before .before .before .before .before .pre .0 .room, c .before .before .before .before .before .pre .1 .left))
-    (λ c. omega (arith, c .before .before .before .before .before .before .pre .0 .room, c .before .before .before .before .before .before .pre .1 .left))
+    (λ c. omega (arith, room _ _ _ (c .before .before .before .before .before .pre .0), c .before .before .before .before .before .pre .1 .left))
+    (λ c. omega (arith, room _ _ _ (c .before .before .before .before .before .pre .0), c .before .before .before .before .before .pre .1 .left))
+    (λ c. omega (arith, room _ _ _ (c .before .before .before .before .before .pre .0), c .before .before .before .before .before .pre .1 .left))
+    (λ c. omega (arith, room _ _ _ (c .before .before .before .before .before .before .pre .0), c .before .before .before .before .before .before .pre .1 .left))
     (λ c. search needs)
     returns-2
-    (λ c. omega (arith, c .before .before .before .before .before .before .before .pre .0 .room, c .before .before .before .before .before .before .before .pre .1 .right))
-    (λ c. omega (arith, c .before .before .before .before .before .before .before .pre .0 .room, c .before .before .before .before .before .before .before .pre .1 .right))
-    (λ c. omega (arith, c .before .before .before .before .before .before .before .pre .0 .room, c .before .before .before .before .before .before .before .pre .1 .right))
-    (λ c. omega (arith, c .before .before .before .before .before .before .before .pre .0 .room, c .before .before .before .before .before .before .before .pre .1 .right))
+    (λ c. omega (arith, room _ _ _ (c .before .before .before .before .before .before .before .pre .0), c .before .before .before .before .before .before .before .pre .1 .right))
+    (λ c. omega (arith, room _ _ _ (c .before .before .before .before .before .before .before .pre .0), c .before .before .before .before .before .before .before .pre .1 .right))
+    (λ c. omega (arith, room _ _ _ (c .before .before .before .before .before .before .before .pre .0), c .before .before .before .before .before .before .before .pre .1 .right))
+    (λ c. omega (arith, room _ _ _ (c .before .before .before .before .before .before .before .pre .0), c .before .before .before .before .before .before .before .pre .1 .right))
     (λ c. search needs)
     returns-3)

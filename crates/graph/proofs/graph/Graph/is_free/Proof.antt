@@ -1,0 +1,25 @@
+-- `Graph::is_free` meets its contract.
+use native.Mathlib.Omega.{arith}
+use Rattle.graph.specs.Cells.{room}
+use Rattle.graph.specs.Joins.{head-variable, head-other}
+use Rattle.graph.specs.Pairs.{free-none, free-mark}
+use Rattle.graph.proofs.graph.Graph.is_free.Statement.{statement}
+use Rattle.graph.proofs.graph.Graph.is_free.Tie as tie
+
+returns : tie.Need-returns
+returns c = λ g S. free-none _ _ _ g S _ (c .before .before .before .before .pre .1) (head-other g _ (c .before .head .result) (c .before .head .ensures g S) (c .if1 .taken))
+
+returns-2 : tie.Need-returns-2
+returns-2 c = λ g S. free-mark _ _ _ g S _ (c .before .before .before .before .before .pre .1) (head-variable g _ (c .before .before .head .result) (c .before .before .head .ensures g S) (c .before .if1 .left))
+
+pub is-free-spec : {M : Type 1} → statement M
+is-free-spec =
+    tie.close
+    (tie.spec
+    (λ c κs. c .before .before .pre)
+    returns
+    (λ c. omega (arith, room _ _ _ (c .before .before .before .before .pre .0), c .before .before .before .before .pre .1))
+    (λ c. omega (arith, room _ _ _ (c .before .before .before .before .pre .0), c .before .before .before .before .pre .1))
+    (λ c. omega (arith, room _ _ _ (c .before .before .before .before .pre .0), c .before .before .before .before .pre .1))
+    (λ c. omega (arith, room _ _ _ (c .before .before .before .before .before .pre .0), c .before .before .before .before .before .pre .1))
+    returns-2)

@@ -1,0 +1,177 @@
+-- One node more: the words behind the others stand for it.
+use mathlib.Core.Path.{_≡_, refl, sym, ap, ap₂, subst, _∙_}
+use mathlib.Core.List.{List, [], _∷_, _++_}
+use mathlib.Core.Option.{none}
+use Prim.Native.Nat.{ℕ, zero, suc, _+_, _*_, _-_, _≤_, _<_}
+use native.Mathlib.Omega.{arith}
+use native.Mathlib.Decide.{ℕ-discrete}
+use lib.ListN.{length, getD, set, length-set}
+use lib.Seq.{getD-set-same, getD-set-other}
+use Rattle.definition.specs.Store.{nothing, variableHead}
+use Rattle.definition.specs.Graph.{Vertex, Graph, variableVertex, applied, vertex, cells}
+use Rattle.base.specs.Part.{part, put, part-same, length-put, part-put, put-before}
+use Rattle.theory.specs.Unification.Like.{Like, like-same, like-more, same-vertex}
+use Rattle.graph.specs.declared.graph.Graph.{Graph as Counts}
+use Rattle.graph.specs.declared.graph.Pushed.{Pushed}
+use Rattle.graph.specs.declared.graph.Pushed.the-variants.{Node, Short}
+use Rattle.graph.specs.Cells.{startIn, linkWord, sortWord, flexWord, rigidWord, markIn, vertexIn, graphIn, length-graphIn, Laid, Shows, start-before, cells-used}
+
+-- ---- no node
+pub shows-none : (words table : List ℕ) → 5 * length words + 5 ≤ length table → length words < 4294967295 → startIn table 0 ≡ 0 → Shows words table (record { nodes = 0; used = 0 }) []
+unfolding graphIn
+shows-none words table wide small z = record {
+  laid = record { wide = wide; first = z; rising = λ i h. absurd (omega arith); end = z; fits = omega arith; small = small };
+  like = like-same [] (record { inside = λ x y h e. absurd (omega arith); rooted = λ x h. absurd (omega arith) });
+}
+
+-- ---- the words up to here are as they were
+module _ (words table words′ table′ : List ℕ) (s : Counts) (L : Laid words table s) (long-words : length words′ ≡ length words) (long-table : length table′ ≡ length table)
+    (rows : (i : ℕ) → i ≤ 5 * s .nodes → getD table′ i 0 ≡ getD table i 0) (filled : (i : ℕ) → i < s .used → getD words′ i 0 ≡ getD words i 0) where
+  -- so are the nodes
+  vertex-kept : (i : ℕ) → i < s .nodes → vertexIn words′ table′ i ≡ vertexIn words table i
+  unfolding vertexIn
+  vertex-kept i h =
+      let a : startIn table′ i ≡ startIn table i = rows (5 * i) (omega arith) in
+      let b : startIn table′ (suc i) ≡ startIn table (suc i) = rows (5 * suc i) (omega arith) in
+      let r = L .rising i h in
+      let t = start-before words table s L (s .nodes - suc i) (suc i) (omega arith) in
+      let p : part (startIn table i + 1) (startIn table (suc i) - (startIn table i + 1)) words′ ≡ part (startIn table i + 1) (startIn table (suc i) - (startIn table i + 1)) words =
+      part-same (startIn table i + 1) (startIn table (suc i) - (startIn table i + 1)) words′ words (omega (arith, L .fits, long-words)) (omega (arith, L .fits)) (λ k m. filled (startIn table i + 1 + k) (omega arith)) in
+      rw (a, b, p, rows (5 * i + 1) (omega arith), rows (5 * i + 2) (omega arith), rows (5 * i + 3) (omega arith), rows (5 * i + 4) (omega arith), filled (startIn table i) (omega arith))
+
+  graph-kept : (n : ℕ) → n ≤ s .nodes → graphIn words′ table′ n ≡ graphIn words table n
+  unfolding graphIn
+  graph-kept zero h = refl
+  graph-kept (suc n) h = ap₂ (λ (g : Graph) (v : Vertex). g ++ (v ∷ [])) (graph-kept n (omega arith)) (vertex-kept n (omega arith))
+
+  -- a node more, which takes the cells up to `end`
+  module _ (end : ℕ) (next : startIn table′ (suc (s .nodes)) ≡ end) (more : s .used + 1 ≤ end) (fits : end ≤ length words) where
+    abbrev grown : Counts
+    grown = record { nodes = s .nodes + 1; used = end }
+
+    starts : startIn table′ (s .nodes) ≡ s .used
+    starts = rows (5 * s .nodes) (omega arith) ∙ L .end
+
+    pub laid-more : Laid words′ table′ grown
+    laid-more = record {
+      wide = omega (arith, L .wide, long-words, long-table);
+      first = rows 0 (omega arith) ∙ L .first;
+      rising = λ i h. elim (ℕ-discrete i (s .nodes)) [
+        | yes e ↦ omega (arith, ap (startIn table′) e, starts, next, more, ap (λ (k : ℕ). startIn table′ (suc k)) e)
+        | no d ↦ omega (arith, rows (5 * i) (omega (arith, d)), rows (5 * suc i) (omega (arith, d)), L .rising i (omega (arith, d)))
+      ];
+      end = let e : s .nodes + 1 ≡ suc (s .nodes) = omega arith in ap (startIn table′) e ∙ next;
+      fits = omega (arith, long-words);
+      small = omega (arith, L .small, long-words);
+    }
+
+    pub shows-more : (g : Graph) → Shows words table s g → (v : Vertex) → v .link ≡ none → vertexIn words′ table′ (s .nodes) ≡ v → Shows words′ table′ grown (g ++ (v ∷ []))
+    unfolding graphIn
+    shows-more g S v bare e = record {
+      laid = laid-more;
+      like =
+          let q : s .nodes + 1 ≡ suc (s .nodes) = omega arith in
+          let c : graphIn words′ table′ (s .nodes + 1) ≡ graphIn words table (s .nodes) ++ (v ∷ []) = ap (graphIn words′ table′) q ∙ ap₂ (λ (h : Graph) (w : Vertex). h ++ (w ∷ [])) (graph-kept (s .nodes) (omega arith)) e in
+          subst (λ (h : Graph). Like h (g ++ (v ∷ []))) (sym c) (like-more (graphIn words table (s .nodes)) g (S .like) v v bare bare (same-vertex v));
+    }
+
+-- ---- how many cells a graph takes
+like-cells : (c g : Graph) → length c ≡ length g → ((x : ℕ) → x < length g → length (vertex c x .args) ≡ length (vertex g x .args)) → cells c ≡ cells g
+unfolding cells vertex
+like-cells [] [] e h = refl
+like-cells [] (w ∷ g) e h = absurd (omega arith)
+like-cells (v ∷ c) [] e h = absurd (omega arith)
+like-cells (v ∷ c) (w ∷ g) e h = let i = like-cells c g (omega arith) (λ x l. h (suc x) (omega arith)) in omega (arith, h 0 (omega arith))
+
+pub cells-shown : (words table : List ℕ) (s : Counts) (g : Graph) → Shows words table s g → cells g ≡ s .used
+cells-shown words table s g S =
+    sym (like-cells (graphIn words table (s .nodes)) g (S .like .long) (λ x l. ap length (S .like .nodes x l .args))) ∙ cells-used words table s (S .laid) (s .nodes) (omega arith) ∙ S .laid .end
+
+-- ---- the row of the next node
+pub record Rows (table table′ : List ℕ) (s : Counts) (sort flex rigid end : ℕ) : Type 0 where
+  pub long : length table′ ≡ length table
+  pub rows : (i : ℕ) → i ≤ 5 * s .nodes → getD table′ i 0 ≡ getD table i 0
+  pub link : linkWord table′ (s .nodes) ≡ 0
+  pub sorted : sortWord table′ (s .nodes) ≡ sort
+  pub flexed : flexWord table′ (s .nodes) ≡ flex
+  pub fixed : rigidWord table′ (s .nodes) ≡ rigid
+  pub next : startIn table′ (suc (s .nodes)) ≡ end
+
+-- five words written one behind the other
+pub rows-written : (table : List ℕ) (s : Counts) (sort flex rigid end : ℕ) → 5 * s .nodes + 6 ≤ length table
+    → Rows table (set (set (set (set (set table (5 * s .nodes + 1) 0) (5 * s .nodes + 2) sort) (5 * s .nodes + 3) flex) (5 * s .nodes + 4) rigid) (5 * s .nodes + 5) end) s sort flex rigid end
+rows-written table s sort flex rigid end h =
+    let a : ℕ = 5 * s .nodes in
+    let t1 : List ℕ = set table (a + 1) 0 in
+    let t2 : List ℕ = set t1 (a + 2) sort in
+    let t3 : List ℕ = set t2 (a + 3) flex in
+    let t4 : List ℕ = set t3 (a + 4) rigid in
+    let l1 : length t1 ≡ length table = length-set table (a + 1) 0 in
+    let l2 : length t2 ≡ length table = length-set t1 (a + 2) sort ∙ l1 in
+    let l3 : length t3 ≡ length table = length-set t2 (a + 3) flex ∙ l2 in
+    let l4 : length t4 ≡ length table = length-set t3 (a + 4) rigid ∙ l3 in
+    record {
+      long = length-set t4 (a + 5) end ∙ l4;
+      rows = λ i l.
+          getD-set-other t4 (a + 5) i end 0 (λ e. omega arith) ∙ getD-set-other t3 (a + 4) i rigid 0 (λ e. omega arith) ∙ getD-set-other t2 (a + 3) i flex 0 (λ e. omega arith)
+          ∙ getD-set-other t1 (a + 2) i sort 0 (λ e. omega arith) ∙ getD-set-other table (a + 1) i 0 0 (λ e. omega arith);
+      link = getD-set-other t4 (a + 5) (a + 1) end 0 (λ e. omega arith) ∙ getD-set-other t3 (a + 4) (a + 1) rigid 0 (λ e. omega arith) ∙ getD-set-other t2 (a + 3) (a + 1) flex 0 (λ e. omega arith)
+          ∙ getD-set-other t1 (a + 2) (a + 1) sort 0 (λ e. omega arith) ∙ getD-set-same table (a + 1) 0 0 (omega arith);
+      sorted = getD-set-other t4 (a + 5) (a + 2) end 0 (λ e. omega arith) ∙ getD-set-other t3 (a + 4) (a + 2) rigid 0 (λ e. omega arith) ∙ getD-set-other t2 (a + 3) (a + 2) flex 0 (λ e. omega arith) ∙ getD-set-same t1 (a + 2) sort 0 (omega (arith, l1));
+      flexed = getD-set-other t4 (a + 5) (a + 3) end 0 (λ e. omega arith) ∙ getD-set-other t3 (a + 4) (a + 3) rigid 0 (λ e. omega arith) ∙ getD-set-same t2 (a + 3) flex 0 (omega (arith, l2));
+      fixed = getD-set-other t4 (a + 5) (a + 4) end 0 (λ e. omega arith) ∙ getD-set-same t3 (a + 4) rigid 0 (omega (arith, l3));
+      next = let q : 5 * suc (s .nodes) ≡ a + 5 = omega arith in ap (λ (i : ℕ). getD (set t4 (a + 5) end) i 0) q ∙ getD-set-same t4 (a + 5) end 0 (omega (arith, l4));
+    }
+
+-- what a node more answers: its number and the graph with it, or that the cells have no room for it
+abbrev pub Pushes : List ℕ → List ℕ → List ℕ → List ℕ → Counts → Vertex → Pushed → Type 0
+Pushes words words′ table table′ s v (Node n s′) = (g : Graph) → Shows words table s g → (n ≡ length g) × Shows words′ table′ s′ (g ++ (v ∷ []))
+Pushes words words′ table table′ s v Short = (g : Graph) → Shows words table s g → length words < cells g + suc (length (v .args))
+
+-- no room
+pub no-room : (words words′ table table′ : List ℕ) (s : Counts) (v : Vertex) → length words < s .used + suc (length (v .args)) → Pushes words words′ table table′ s v Short
+no-room words words′ table table′ s v h g S = omega (arith, h, cells-shown words table s g S)
+
+-- the node stands there
+module _ (words table words′ table′ : List ℕ) (s : Counts) (L : Laid words table s) (long : length words′ ≡ length words) (filled : (i : ℕ) → i < s .used → getD words′ i 0 ≡ getD words i 0) (sort flex rigid end : ℕ) (R : Rows table table′ s sort flex rigid end) (more : s .used + 1 ≤ end) (fits : end ≤ length words) where
+  starts-there : startIn table′ (s .nodes) ≡ s .used
+  starts-there = R .rows (5 * s .nodes) (omega arith) ∙ L .end
+
+  pub node-more : (head : ℕ) (args : List ℕ) → getD words′ (s .used) 0 ≡ head → part (s .used + 1) (end - (s .used + 1)) words′ ≡ args
+      → Pushes words words′ table table′ s (record { head = head; args = args; link = none; sort = sort; flex = markIn flex; rigid = markIn rigid }) (Node (s .nodes) (record { nodes = s .nodes + 1; used = end }))
+  unfolding vertexIn
+  node-more head args h a g S =
+      let v : Vertex = record { head = head; args = args; link = none; sort = sort; flex = markIn flex; rigid = markIn rigid } in
+      let e : vertexIn words′ table′ (s .nodes) ≡ v = rw (starts-there, R .next, R .link, R .sorted, R .flexed, R .fixed, h, a) in
+      (sym (length-graphIn words table (s .nodes)) ∙ S .like .long, shows-more words table words′ table′ s L long (R .long) (R .rows) filled end (R .next) more fits g S v refl e)
+
+-- a variable takes one cell
+pub var-pushed : (words table table′ : List ℕ) (s : Counts) → Laid words table s → s .used < length words → (sort flex rigid : ℕ) → Rows table table′ s sort flex rigid (s .used + 1)
+    → Pushes words (set words (s .used) variableHead) table table′ s (variableVertex sort (markIn flex) (markIn rigid)) (Node (s .nodes) (record { nodes = s .nodes + 1; used = s .used + 1 }))
+unfolding part
+var-pushed words table table′ s L h sort flex rigid R =
+    let z : s .used + 1 - (s .used + 1) ≡ 0 = omega arith in
+    node-more words table (set words (s .used) variableHead) table′ s L (length-set words (s .used) variableHead) (λ i l. getD-set-other words (s .used) i variableHead 0 (λ e. omega arith)) sort flex rigid (s .used + 1) R (omega arith) (omega arith) variableHead []
+    (getD-set-same words (s .used) variableHead 0 h) (rw z)
+
+-- the cells are as many as before
+pub pushed-long : (words args copied : List ℕ) (used head end : ℕ) → end ≡ used + 1 + length args → end ≤ length words → copied ≡ args → length (put (used + 1) (end - (used + 1)) copied (set words used head)) ≡ length words
+pushed-long words args copied used head end e h same =
+    let w : List ℕ = set words used head in
+    let lw : length w ≡ length words = length-set words used head in
+    length-put (used + 1) (end - (used + 1)) w (omega (arith, lw)) copied (ap length same ∙ omega arith) ∙ lw
+
+-- an application takes a cell for its head and one for each argument
+pub app-pushed : (words table table′ args copied : List ℕ) (s : Counts) (head end : ℕ) → Laid words table s → end ≡ s .used + 1 + length args → end ≤ length words → copied ≡ args → Rows table table′ s nothing 0 0 end
+    → Pushes words (put (s .used + 1) (end - (s .used + 1)) copied (set words (s .used) head)) table table′ s (applied head args) (Node (s .nodes) (record { nodes = s .nodes + 1; used = end }))
+app-pushed words table table′ args copied s head end L e h same R =
+    let n : ℕ = end - (s .used + 1) in
+    let w : List ℕ = set words (s .used) head in
+    let lw : length w ≡ length words = length-set words (s .used) head in
+    let room : s .used + 1 + n ≤ length w = omega (arith, lw) in
+    let long : length copied ≡ n = ap length same ∙ omega arith in
+    node-more words table (put (s .used + 1) n copied w) table′ s L (pushed-long words args copied (s .used) head end e h same)
+    (λ i l. put-before (s .used + 1) n w room copied long i (omega arith) ∙ getD-set-other words (s .used) i head 0 (λ q. omega arith))
+    nothing 0 0 end R (omega arith) h head args
+    (put-before (s .used + 1) n w room copied long (s .used) (omega arith) ∙ getD-set-same words (s .used) head 0 (omega arith))
+    (part-put (s .used + 1) n w room copied long ∙ same)
