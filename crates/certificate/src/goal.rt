@@ -1,4 +1,5 @@
 // Goals.
+use base::id::Ground;
 use base::little::u32_at;
 use catalog::region::Entered;
 use catalog::whole::Catalog;
@@ -21,7 +22,7 @@ pub fn take_goal(pack: &[u8], body: &[u8], work: &mut [u32], c: Catalog, at: usi
     if c.count(work, 3) <= node {
         return Taken::Bad;
     }
-    if node_sort(pack, work, c, node) != 4294967295 {
+    if node_sort(pack, work, c, node) != Ground::PROP {
         return Taken::Bad;
     }
     if !is_name(&body[4..]) {

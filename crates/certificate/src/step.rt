@@ -1,4 +1,5 @@
 // Steps.
+use base::id::Ground;
 use base::little::u32_at;
 use catalog::whole::Catalog;
 use frame::row::all_below;
@@ -25,7 +26,7 @@ pub fn take_step(pack: &[u8], body: &[u8], work: &mut [u32], c: Catalog, at: usi
     if c.count(work, 3) <= judgment {
         return Taken::Bad;
     }
-    if node_sort(pack, work, c, judgment) != 4294967295 {
+    if node_sort(pack, work, c, judgment) != Ground::PROP {
         return Taken::Bad;
     }
     let premises = body_half(pack, work, c, 2, rule, 2) as usize;

@@ -4,3 +4,5 @@ pub mod Links
 pub mod Joins
 pub mod Pushes
 pub mod Pairs
+pub mod Meets
+pub mod Unifies

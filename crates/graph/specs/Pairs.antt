@@ -20,6 +20,11 @@ unfoldable pub pairsIn : List ℕ → ℕ → List Pair
 pairsIn pairs zero = []
 pairsIn pairs (suc n) = record { left = getD pairs (2 * n) 0; right = getD pairs (2 * n + 1) 0 } ∷ pairsIn pairs n
 
+pub length-pairsIn : (pairs : List ℕ) (n : ℕ) → length (pairsIn pairs n) ≡ n
+unfolding pairsIn
+length-pairsIn pairs zero = refl
+length-pairsIn pairs (suc n) = ap suc (length-pairsIn pairs n)
+
 -- of whatever graph is held: how many arguments a node has, one of them, whether it is a free variable
 abbrev pub ArityOf : List ℕ → List ℕ → Counts → ℕ → ℕ → Type 0
 ArityOf words table s x r = (g : Graph) → Shows words table s g → r ≡ length (vertex g x .args)

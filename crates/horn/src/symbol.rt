@@ -1,5 +1,6 @@
 // Symbols.
 use crate::taken::Taken;
+use base::id::Ground;
 use base::little::u16_at;
 use base::little::u32_at;
 use catalog::region::Entered;
@@ -21,7 +22,7 @@ pub enum Shape {
 fn is_output(output: u32, sorts: usize) -> bool
     ensures { λ r. ⌜ OutputOf sorts output r ⌝ }
 {
-    if output == 4294967295 {
+    if output == Ground::PROP {
         return true;
     }
     (output as usize) < sorts

@@ -126,6 +126,9 @@ module _ (bytes : List ℕ) (rs : ℕ → List Place) (P : Pack) (R : Reads byte
   pub length-symbols : length (P .symbols) ≡ length (rs 1)
   length-symbols = listed-length _ _ (P .symbols) (rs 1) (R .symbols)
 
+  pub length-rules : length (P .rules) ≡ length (rs 2)
+  length-rules = R .rules .many
+
   pub length-nodes : length (P .nodes) ≡ length (rs 3)
   length-nodes = listed-length _ _ (P .nodes) (rs 3) (R .nodes)
 

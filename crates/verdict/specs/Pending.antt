@@ -46,7 +46,7 @@ rule-pending P vars ts t ss S C k m = record {
 }
 
 -- a term has a word at least
-term-some : (t : Term) → 1 ≤ length (termWords t)
+pub term-some : (t : Term) → 1 ≤ length (termWords t)
 unfolding termWords
 term-some (var k) = omega arith
 term-some (app h ts) = omega arith

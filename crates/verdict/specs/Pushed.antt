@@ -98,7 +98,7 @@ pub record JudgmentsFrom (bytes work : List ℕ) (c : Catalog) (i k : ℕ) (stac
   pub words : OfHeld bytes work c (λ P. stacked 0 (s′ .len) stack′ ≡ judged P (drop k (stepOf P i .refs)) ++ (stepOf P i .judgment ∷ []))
 
 -- a number of a list whose numbers are all below n
-below-at : (n : ℕ) (xs : List ℕ) (k : ℕ) → Below n xs → k < length xs → getD xs k 0 < n
+pub below-at : (n : ℕ) (xs : List ℕ) (k : ℕ) → Below n xs → k < length xs → getD xs k 0 < n
 below-at n [] k b l = absurd (omega arith)
 below-at n (x ∷ xs) zero b l = b .0
 below-at n (x ∷ xs) (suc k) b l = below-at n xs k (b .1) (omega arith)

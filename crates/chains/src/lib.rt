@@ -1,0 +1,5 @@
+// The rules that conclude a predicate, and a sort's constructors, linked in the pack's order.
+pub mod chain;
+pub mod constructors;
+pub mod head;
+pub mod rules;
