@@ -1,11 +1,12 @@
 -- Zeros behind a place of a list.
-use mathlib.Core.Path.{_≡_}
+use mathlib.Core.Path.{_≡_, refl, ap, _∙_}
 use mathlib.Core.List.{List, _++_, append-assoc, append-nil}
 use Prim.Native.Nat.{ℕ, suc, _+_, _-_, _<_, _≤_}
 use native.Mathlib.Numerals.{add-one}
 use native.Mathlib.Omega.{arith}
-use lib.ListN.{length, take, replicate, set, length-set}
+use lib.ListN.{length, getD, take, drop, replicate, set, length-set, length-replicate, getD-replicate}
 use lib.Seq.{take-all, take-suc-set}
+use Rattle.base.specs.Part.{put, length-part, part-lent, length-put, put-at, put-lent}
 
 -- what stands before `from`, and zeros to the end
 unfoldable pub zeroed : ℕ → List ℕ → List ℕ
@@ -31,3 +32,26 @@ unfolding zeroed
 zeroed-all xs =
     let e : length xs - 0 ≡ length xs = omega arith in
     rw e
+
+-- the first n words were lent, `&mut xs[0..n]`, and came back as zeros: nothing is longer or shorter, and there they stand
+module _ (n : ℕ) (xs zs : List ℕ) (l : n ≤ length xs) (z : zs ≡ replicate (length (take (n - 0) (drop 0 xs))) 0) where
+  as-lent : length (take (n - 0) (drop 0 xs)) ≡ n
+  as-lent = ap length (part-lent 0 n n xs (omega arith)) ∙ length-part 0 n xs (omega arith)
+
+  as-many : length zs ≡ n
+  as-many = ap length z ∙ length-replicate (length (take (n - 0) (drop 0 xs))) 0 ∙ as-lent
+
+  as-put : put 0 (n - 0) zs xs ≡ put 0 n zs xs
+  as-put = put-lent 0 n n xs zs zs (omega arith) refl
+
+  pub zeros-long : length (put 0 (n - 0) zs xs) ≡ length xs
+  zeros-long = ap length as-put ∙ length-put 0 n xs (omega arith) zs as-many
+
+  pub zeros-there : (k : ℕ) → k < n → getD (put 0 (n - 0) zs xs) k 0 ≡ 0
+  zeros-there k h =
+      let first : k ≡ 0 + k = omega arith in
+      ap (λ (ys : List ℕ). getD ys k 0) as-put
+      ∙ ap (λ (j : ℕ). getD (put 0 n zs xs) j 0) first
+      ∙ put-at 0 n xs (omega arith) zs as-many k h
+      ∙ ap (λ (ys : List ℕ). getD ys k 0) z
+      ∙ getD-replicate (length (take (n - 0) (drop 0 xs))) k 0 0 (omega (arith, as-lent, h))

@@ -1,5 +1,5 @@
 // The step check.
-use base::zero::zero_words;
+use base::zero::zero_words_from;
 use call::answer::Outcome;
 use call::answer::outcome_answer;
 use call::lent::Lent;
@@ -54,6 +54,6 @@ pub extern "C" fn cert_check(pack: &[u8], work: &mut [u32]) -> Answer
     ensures statement { λ r. ⌜ Statement (now (pack .entry)) (length (now (work .entry))) r ⌝ }
 {
     let outcome = check_outcome(pack, work);
-    zero_words(work);
+    zero_words_from(work, 0);
     outcome_answer(outcome)
 }

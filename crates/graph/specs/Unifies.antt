@@ -101,7 +101,7 @@ pub record Taking (words table pairs : List ℕ) (s : Counts) (top taken : ℕ) 
   pub enough : top + openCells graph ≤ fuel
   pub most : fuel + taken ≤ suc (s .used)
 
-many-nodes : (words table : List ℕ) (s : Counts) (g : Graph) → Shows words table s g → length g ≡ s .nodes
+pub many-nodes : (words table : List ℕ) (s : Counts) (g : Graph) → Shows words table s g → length g ≡ s .nodes
 many-nodes words table s g S = sym (S .like .long) ∙ length-graphIn words table (s .nodes)
 
 -- the first pair stands there

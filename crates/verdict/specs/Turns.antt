@@ -7,7 +7,7 @@ use Prim.Native.Nat.{ℕ, suc, _+_, _-_, _≤_, _<_}
 use native.Mathlib.Omega.{arith}
 use borrow.Author.Tests.{le-leb, lt-leb, eq-eqb, ne-eqb}
 use lib.Dec.{eqb}
-use lib.ListN.{length, getD, take, drop, replicate, length-append, length-drop, length-replicate, getD-replicate}
+use lib.ListN.{length, getD, take, drop, replicate, length-append, length-drop, length-replicate}
 use lib.Seq.{drop-cons}
 use Rattle.definition.specs.Pack.{prop, Pack, Rule, Step, symbolOf, ruleOf, nodeOf, stepOf}
 use Rattle.definition.specs.Certificate.{count}
@@ -17,7 +17,8 @@ use Rattle.definition.specs.Good.{Below, Good}
 use Rattle.definition.specs.Laws.Grow.{below-more}
 use Rattle.definition.specs.Laws.Agreement.{judged, judged-below}
 use Rattle.definition.specs.Laws.Prefix.{termWords, termsWords, term-length, terms-length}
-use Rattle.base.specs.Part.{put, part-lent, length-part, put-lent, length-put, put-at}
+use Rattle.base.specs.Part.{put}
+use Rattle.base.specs.Zero.{zeros-long, zeros-there}
 use Rattle.base.specs.Stack.{stacked, length-stacked, Took}
 use Rattle.base.specs.declared.stack.Stack.{Stack}
 use Rattle.base.specs.declared.stack.Popped.the-variants.{Word}
@@ -160,22 +161,14 @@ pub at-first : (P : Pack) → Proper P → (r : ℕ) (stack vals : List ℕ) (s 
     → Matching P r stack (put 0 (n - 0) zeros vals) s 0 []
 unfolding valueOf
 at-first P Q r stack vals s R slots n zeros vars-are z =
-    let few : 0 + n ≤ length vals = omega (arith, vars-are, Q .good .rules r (R .rule) .variables, slots) in
-    let long : length (take (n - 0) (drop 0 vals)) ≡ n = ap length (part-lent 0 n n vals (omega arith)) ∙ length-part 0 n vals few in
-    let all : length zeros ≡ n = ap length z ∙ length-replicate (length (take (n - 0) (drop 0 vals))) 0 ∙ long in
-    let e : put 0 (n - 0) zeros vals ≡ put 0 n zeros vals = put-lent 0 n n vals zeros zeros (omega arith) refl in
+    let few : n ≤ length vals = omega (arith, vars-are, Q .good .rules r (R .rule) .variables, slots) in
     record {
       base = R .base;
       room = R .room;
-      slots = ap length e ∙ length-put 0 n vals few zeros all ∙ slots;
+      slots = zeros-long n vals zeros few z ∙ slots;
       pending = R .pending;
       below = R .below;
-      values = λ k h.
-          let l : k < n = omega (arith, vars-are, h) in
-          let first : k ≡ 0 + k = omega arith in
-          let f : getD (put 0 (n - 0) zeros vals) k 0 ≡ 0 =
-          ap (λ (x : List ℕ). getD x k 0) e ∙ ap (λ (j : ℕ). getD (put 0 n zeros vals) j 0) first ∙ put-at 0 n vals few zeros all k l ∙ ap (λ (x : List ℕ). getD x k 0) z ∙ getD-replicate (length (take (n - 0) (drop 0 vals))) k 0 0 (omega (arith, long, l)) in
-          sym (ap valueIn f);
+      values = λ k h. sym (ap valueIn (zeros-there n vals zeros few z k (omega (arith, vars-are, h))));
     }
 
 -- a step's rule is to be matched against the judgments of its refs and its own

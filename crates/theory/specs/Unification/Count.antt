@@ -7,12 +7,12 @@ use lib.Dec.{eqb}
 use Rattle.definition.specs.Test.{is, see, never, tests}
 
 -- how many numbers below n pass
-count : (ℕ → Bool) → ℕ → ℕ
+unfoldable pub count : (ℕ → Bool) → ℕ → ℕ
 count p zero = 0
 count p (suc n) = elim (p n) [ true ↦ suc (count p n) | false ↦ count p n ]
 
 -- no more than n pass
-count-most : (p : ℕ → Bool) (n : ℕ) → count p n ≤ n
+pub count-most : (p : ℕ → Bool) (n : ℕ) → count p n ≤ n
 unfolding count
 count-most p zero = omega arith
 count-most p (suc n) = let h = count-most p n in elim (see (p n)) [
@@ -21,7 +21,7 @@ count-most p (suc n) = let h = count-most p n in elim (see (p n)) [
 ]
 
 -- where all that pass p pass q, no fewer pass q
-count-more : (p q : ℕ → Bool) (n : ℕ) → ((x : ℕ) → p x ≡ true → q x ≡ true) → count p n ≤ count q n
+pub count-more : (p q : ℕ → Bool) (n : ℕ) → ((x : ℕ) → p x ≡ true → q x ≡ true) → count p n ≤ count q n
 unfolding count
 count-more p q zero f = omega arith
 count-more p q (suc n) f = let h = count-more p q n f in elim (see (p n)) [
@@ -33,7 +33,7 @@ count-more p q (suc n) f = let h = count-more p q n f in elim (see (p n)) [
 ]
 
 -- and if one passes q alone, more do
-count-fewer : (p q : ℕ → Bool) (n x : ℕ) → ((x : ℕ) → p x ≡ true → q x ≡ true) → x < n → p x ≡ false → q x ≡ true → count p n < count q n
+pub count-fewer : (p q : ℕ → Bool) (n x : ℕ) → ((x : ℕ) → p x ≡ true → q x ≡ true) → x < n → p x ≡ false → q x ≡ true → count p n < count q n
 unfolding count
 count-fewer p q zero x f h a b = absurd (omega arith)
 count-fewer p q (suc n) x f h a b = elim (see (eqb x n)) [

@@ -1,0 +1,2 @@
+// The test for circles in the term graph.
+pub mod walk;
