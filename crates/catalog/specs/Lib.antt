@@ -3,3 +3,4 @@ pub mod Place
 pub mod Region
 pub mod Laws
 pub mod Whole
+pub mod Same

@@ -8,7 +8,7 @@ use Rattle.definition.specs.Pack.{Pack}
 use Rattle.catalog.specs.Whole.{recordsOf, records-few}
 use Rattle.catalog.specs.declared.whole.Catalog.{Catalog}
 use Rattle.pack.specs.Reads.{Reads}
-use Rattle.verdict.specs.Held.{Held, OfHeld}
+use Rattle.pack.specs.Held.{Held, OfHeld}
 use Rattle.chains.specs.Chain.{Chained, Put, chained-none, chained-more}
 
 -- the records of a kind are few

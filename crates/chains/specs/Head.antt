@@ -11,7 +11,7 @@ use Rattle.definition.specs.Theory.{variable}
 use Rattle.definition.specs.Good.{Below, Sorted}
 use Rattle.definition.specs.Laws.Prefix.{termWords, termsWords}
 use Rattle.pack.specs.Reads.{ruleWords}
-use Rattle.verdict.specs.Held.{Proper}
+use Rattle.pack.specs.Held.{Proper}
 use Rattle.verdict.specs.Words.{judgments-sorted}
 use Rattle.verdict.specs.Pushed.{below-at}
 use Rattle.verdict.specs.Pending.{term-some, Pending, pending-most, pending-none, word-there, next-variable, next-symbol}

@@ -6,7 +6,7 @@ use pack::symbol::symbol_output;
 ghost use Prim.Native.Nat.{_≤_};
 ghost use lib.ListN.{length};
 ghost use Rattle.definition.specs.Pack.{symbolOf};
-ghost use Rattle.verdict.specs.Held.{Held, OfHeld};
+ghost use Rattle.pack.specs.Held.{Held, OfHeld};
 ghost use Rattle.chains.specs.Chain.{Chained};
 
 // Every sort's chain is the symbols that have it as output.

@@ -9,7 +9,7 @@ ghost use Prim.Native.Nat.{_<_};
 ghost use lib.ListN.{length};
 ghost use Rattle.definition.specs.Pack.{ruleOf};
 ghost use Rattle.definition.specs.Theory.{variable};
-ghost use Rattle.verdict.specs.Held.{Held, OfHeld};
+ghost use Rattle.pack.specs.Held.{Held, OfHeld};
 ghost use Rattle.chains.specs.Head.{topOf, Behind};
 
 // How many terms follow the prefix word `w`: as many as the symbol has inputs, none behind a variable.

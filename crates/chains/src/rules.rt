@@ -6,7 +6,7 @@ use catalog::whole::Catalog;
 ghost use Prim.Native.Nat.{_≤_};
 ghost use lib.ListN.{length};
 ghost use Rattle.definition.specs.Pack.{ruleOf};
-ghost use Rattle.verdict.specs.Held.{Held, OfHeld};
+ghost use Rattle.pack.specs.Held.{Held, OfHeld};
 ghost use Rattle.chains.specs.Chain.{Chained};
 ghost use Rattle.chains.specs.Head.{topOf};
 

@@ -21,7 +21,7 @@ use Rattle.catalog.specs.Whole.{recordsOf}
 use Rattle.catalog.specs.declared.whole.Catalog.{Catalog}
 use Rattle.reader.specs.Parsed.{tablesOf, Represents}
 use Rattle.pack.specs.Reads.{Reads}
-use Rattle.verdict.specs.Held.{Proper, Held, OfHeld}
+use Rattle.pack.specs.Held.{Proper, Held, OfHeld}
 use Rattle.call.specs.Outcome.{refusalOf}
 use Rattle.call.specs.Opening.{openingRefusal}
 use Rattle.call.specs.declared.answer.Outcome.{Outcome}

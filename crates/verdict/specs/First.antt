@@ -14,7 +14,7 @@ use Rattle.catalog.specs.Whole.{recordsOf}
 use Rattle.catalog.specs.declared.whole.Catalog.{Catalog}
 use Rattle.frame.specs.Name.{denied, not-denied}
 use Rattle.pack.specs.Reads.{Reads}
-use Rattle.verdict.specs.Held.{OfHeld}
+use Rattle.pack.specs.Held.{OfHeld}
 use Rattle.verdict.specs.declared.failing.Failing.{Failing}
 use Rattle.verdict.specs.declared.failing.Failing.the-variants.{At, Nothing}
 

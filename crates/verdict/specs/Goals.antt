@@ -17,7 +17,7 @@ use Rattle.catalog.specs.declared.whole.Catalog.{Catalog}
 use Rattle.catalog.specs.declared.region.Sought.the-variants.{At, Nowhere}
 use Rattle.pack.specs.Reads.{length-steps, length-goals, length-results}
 use Rattle.pack.specs.Says.{OfPack, ResultOf}
-use Rattle.verdict.specs.Held.{Held, OfHeld}
+use Rattle.pack.specs.Held.{Held, OfHeld}
 
 -- the result of a goal's name decides: there is no other
 met-by : (P : Pack) → Once P → (g : Goal) (i : ℕ) → i < length (P .results) → getD (P .results) i noResult .name ≡ g .name

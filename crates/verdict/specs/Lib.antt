@@ -1,5 +1,4 @@
 -- The verdict: a rule's words against nodes, the values of variables, steps and goals.
-pub mod Held
 pub mod Words
 pub mod Pending
 pub mod Values

@@ -11,7 +11,7 @@ use Rattle.base.specs.Stack.{stacked}
 use Rattle.base.specs.declared.stack.Stack.{Stack}
 use Rattle.catalog.specs.declared.whole.Catalog.{Catalog}
 use Rattle.pack.specs.Reads.{ruleWords}
-use Rattle.verdict.specs.Held.{Held, OfHeld}
+use Rattle.pack.specs.Held.{Held, OfHeld}
 use Rattle.verdict.specs.Words.{matchWords, against}
 use Rattle.verdict.specs.Pending.{Pending}
 use Rattle.verdict.specs.Values.{Values}

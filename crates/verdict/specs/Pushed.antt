@@ -14,7 +14,7 @@ use Rattle.catalog.specs.Whole.{recordsOf}
 use Rattle.catalog.specs.declared.whole.Catalog.{Catalog}
 use Rattle.pack.specs.Reads.{length-nodes, length-steps}
 use Rattle.pack.specs.Says.{OfPack}
-use Rattle.verdict.specs.Held.{Held, OfHeld}
+use Rattle.pack.specs.Held.{Held, OfHeld}
 use Rattle.verdict.specs.Matching.{ArgumentsOn, JudgmentsOn}
 
 -- what `push` promises

@@ -23,7 +23,7 @@ use Rattle.base.specs.Stack.{stacked, length-stacked, Took}
 use Rattle.base.specs.declared.stack.Stack.{Stack}
 use Rattle.base.specs.declared.stack.Popped.the-variants.{Word}
 use Rattle.pack.specs.Reads.{ruleWords}
-use Rattle.verdict.specs.Held.{Proper}
+use Rattle.pack.specs.Held.{Proper}
 use Rattle.verdict.specs.Words.{matchWords, node-many, node-below, against, judgments-sorted, length-judged, passes-words}
 use Rattle.verdict.specs.Pending.{Pending, rule-pending, pending-most, pending-none, word-there, next-variable, next-symbol}
 use Rattle.verdict.specs.Values.{valueIn, Binds}

@@ -10,7 +10,7 @@ ghost use mathlib.Core.Path.{_≡_};
 ghost use Prim.Native.Nat.{_<_};
 ghost use lib.ListN.{length, getD};
 ghost use Rattle.definition.specs.Verdict.{noGoal, met, firstFailing};
-ghost use Rattle.verdict.specs.Held.{Held, OfHeld};
+ghost use Rattle.pack.specs.Held.{Held, OfHeld};
 ghost use Rattle.verdict.specs.First.{failingOf};
 
 // Whether goal `g` has a result of its name whose step has its judgment.

@@ -15,7 +15,7 @@ ghost use Rattle.definition.specs.Pack.{ruleOf};
 ghost use Rattle.definition.specs.Verdict.{matched};
 ghost use Rattle.base.specs.Stack.{stacked};
 ghost use Rattle.pack.specs.Reads.{ruleWords};
-ghost use Rattle.verdict.specs.Held.{Held, OfHeld};
+ghost use Rattle.pack.specs.Held.{Held, OfHeld};
 ghost use Rattle.verdict.specs.Words.{matchWords};
 ghost use Rattle.verdict.specs.Matching.{Asked, Turned, Ready};
 

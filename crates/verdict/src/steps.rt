@@ -9,7 +9,7 @@ ghost use Prim.Native.Nat.{_<_};
 ghost use lib.ListN.{length};
 ghost use Rattle.definition.specs.Pack.{stepOf};
 ghost use Rattle.definition.specs.Verdict.{passes, firstFailing};
-ghost use Rattle.verdict.specs.Held.{Held, OfHeld};
+ghost use Rattle.pack.specs.Held.{Held, OfHeld};
 ghost use Rattle.verdict.specs.First.{failingOf};
 
 // Whether one assignment turns the rule's premises into the judgments of the refs of step `i` and its conclusion into the step's own.

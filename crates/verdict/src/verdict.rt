@@ -5,7 +5,7 @@ use crate::steps::failing_step;
 use catalog::whole::Catalog;
 ghost use mathlib.Core.Path.{_≡_};
 ghost use Rattle.definition.specs.Verdict.{verdict};
-ghost use Rattle.verdict.specs.Held.{Held, OfHeld};
+ghost use Rattle.pack.specs.Held.{Held, OfHeld};
 ghost use Rattle.verdict.specs.Decided.{verdictOf};
 
 // All pass, or the first step or goal that fails.

@@ -4,7 +4,7 @@ use mathlib.Core.Path.{_≡_}
 use Prim.Native.Nat.{ℕ, suc, _+_, _-_, _<_}
 use native.Mathlib.Omega.{arith}
 use lib.ListN.{length}
-use Rattle.verdict.specs.Held.{readable}
+use Rattle.pack.specs.Held.{readable}
 use Rattle.definition.specs.Pack.{symbolOf}
 use Rattle.pack.specs.Reads.{length-symbols}
 use Rattle.chains.specs.Chaining.{kind-few, Chaining, chaining-none, chaining-more, chaining-all}

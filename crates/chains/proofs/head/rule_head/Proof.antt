@@ -3,7 +3,7 @@ use borrow.Author.Needs.{needs}
 use Prim.Native.Nat.{_-_}
 use native.Mathlib.Numerals.{add-one}
 use native.Mathlib.Omega.{arith}
-use Rattle.verdict.specs.Held.{OfHeld, readable}
+use Rattle.pack.specs.Held.{OfHeld, readable}
 use Rattle.chains.specs.Head.{Passing, passing-first, passing-there, passing-early, passing-few, passing-last, passing-symbol, passing-next}
 use Rattle.chains.proofs.head.rule_head.Statement.{statement}
 use Rattle.chains.proofs.head.rule_head.Tie as tie

@@ -1,7 +1,7 @@
 -- `terms_behind` meets its contract.
 use native.Mathlib.Omega.{arith}
 use Rattle.pack.specs.Reads.{length-symbols}
-use Rattle.verdict.specs.Held.{readable}
+use Rattle.pack.specs.Held.{readable}
 use Rattle.chains.specs.Head.{a-symbol, a-variable}
 use Rattle.chains.proofs.head.terms_behind.Statement.{statement}
 use Rattle.chains.proofs.head.terms_behind.Tie as tie

@@ -1,6 +1,6 @@
 -- `goal_is_met` meets its contract: the result of the goal's name decides, or there is none.
 use borrow.Author.Needs.{needs}
-use Rattle.verdict.specs.Held.{readable}
+use Rattle.pack.specs.Held.{readable}
 use Rattle.verdict.specs.Goals.{goal-recorded, result-recorded, result-step-recorded, goal-found, goal-missed}
 use Rattle.verdict.proofs.goals.goal_is_met.Statement.{statement}
 use Rattle.verdict.proofs.goals.goal_is_met.Tie as tie

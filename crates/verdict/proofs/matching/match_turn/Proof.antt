@@ -4,7 +4,7 @@ use mathlib.Core.Path.{sym, _∙_}
 use native.Mathlib.Omega.{arith}
 use Rattle.catalog.specs.Whole.{records-few}
 use Rattle.pack.specs.Reads.{length-nodes}
-use Rattle.verdict.specs.Held.{readable}
+use Rattle.pack.specs.Held.{readable}
 use Rattle.verdict.specs.Turns.{few-vars, on-stack, all-done, there, a-node, variable-below, value-fits, value-differs, head-differs, arguments-room, head-fits}
 use Rattle.verdict.proofs.matching.match_turn.Statement.{statement}
 use Rattle.verdict.proofs.matching.match_turn.Tie as tie

@@ -10,7 +10,7 @@ use Rattle.definition.specs.Pack.{ruleOf}
 use Rattle.definition.specs.Verdict.{Bound, matched}
 use Rattle.base.specs.Stack.{stacked}
 use Rattle.pack.specs.Reads.{ruleWords}
-use Rattle.verdict.specs.Held.{OfHeld, readable}
+use Rattle.pack.specs.Held.{OfHeld, readable}
 use Rattle.verdict.specs.Words.{matchWords}
 use Rattle.verdict.specs.Matching.{Matching, Ready, rest}
 use Rattle.verdict.specs.Turns.{at-first}

@@ -1,6 +1,6 @@
 -- `push_arguments` meets its contract: with each turn one argument more stands on the stack.
 use borrow.Author.Needs.{needs}
-use Rattle.verdict.specs.Held.{readable}
+use Rattle.pack.specs.Held.{readable}
 use Rattle.verdict.specs.Pushed.{ArgumentsFrom, node-recorded, arguments-none, arguments-left, arguments-room, arguments-more, arguments-all}
 use Rattle.verdict.proofs.pending.push_arguments.Statement.{statement}
 use Rattle.verdict.proofs.pending.push_arguments.Tie as tie

@@ -1,7 +1,7 @@
 -- `push_judgments` meets its contract: with each turn the judgment of one ref more stands on the stack.
 use borrow.Author.Needs.{needs}
 use native.Mathlib.Omega.{arith}
-use Rattle.verdict.specs.Held.{readable}
+use Rattle.pack.specs.Held.{readable}
 use Rattle.verdict.specs.Pushed.{JudgmentsFrom, step-recorded, judgments-own, judgments-left, judgments-room, ref-recorded, judgments-more, judgments-all}
 use Rattle.verdict.proofs.pending.push_judgments.Statement.{statement}
 use Rattle.verdict.proofs.pending.push_judgments.Tie as tie
