@@ -1,6 +1,6 @@
 -- The nodes that cells and a table stand for. A row of the table: where the node starts in the cells, its link and one or 0, its sort, whether it
 -- is flexible, whether it is rigid.
-use mathlib.Core.Path.{_≡_, refl, sym, ap, _∙_}
+use mathlib.Core.Path.{_≡_, refl, sym, ap, ap₂, subst, _∙_}
 use mathlib.Core.Bool.{Bool, true, false}
 use mathlib.Core.List.{List, [], _∷_, _++_}
 use mathlib.Core.Option.{Option, none, some}
@@ -8,10 +8,10 @@ use Prim.Native.Nat.{ℕ, zero, suc, _+_, _*_, _-_, _≤_, _<_}
 use native.Mathlib.Omega.{arith}
 use native.Mathlib.Decide.{ℕ-discrete}
 use native.Mathlib.Numerals.{add-one}
-use lib.ListN.{length, getD, length-append, List·getD-append}
-use lib.Seq.{getD-at}
+use lib.ListN.{length, getD, set, length-set, length-append, List·getD-append}
+use lib.Seq.{getD-at, getD-set-other}
 use Rattle.definition.specs.Graph.{Vertex, Graph, applied, vertex, cells}
-use Rattle.base.specs.Part.{part, length-part}
+use Rattle.base.specs.Part.{part, part-same, length-part}
 use Rattle.theory.specs.Unification.Like.{Like}
 use Rattle.graph.specs.declared.graph.Graph.{Graph as Counts}
 
@@ -71,9 +71,13 @@ graph-at words table (suc n) i l = elim (ℕ-discrete i n) [
   | no d ↦ List·getD-append (graphIn words table n) (vertexIn words table n ∷ []) (applied 0 []) i (omega (arith, length-graphIn words table n, d)) ∙ graph-at words table n i (omega (arith, d))
 ]
 
--- the nodes stand one behind the other in the cells; there is a row for as many as the cells can hold, and one more, for where the next one starts
+-- there is a row for as many nodes as the cells can hold, and one more, for where the next one starts; behind them is room for others
+abbrev pub rowsEnd : List ℕ → ℕ
+rowsEnd words = 5 * length words + 5
+
+-- the nodes stand one behind the other in the cells
 pub record Laid (words table : List ℕ) (s : Counts) : Type 0 where
-  pub wide : 5 * length words + 5 ≤ length table
+  pub wide : rowsEnd words ≤ length table
   pub first : startIn table 0 ≡ 0
   pub rising : (i : ℕ) → i < s .nodes → startIn table i + 1 ≤ startIn table (suc i)
   pub end : startIn table (s .nodes) ≡ s .used
@@ -111,3 +115,79 @@ cells-used words table s L (suc n) l =
     cells-more : (g : Graph) (v : Vertex) → cells (g ++ (v ∷ [])) ≡ cells g + suc (length (v .args))
     cells-more [] v = omega arith
     cells-more (w ∷ g) v = omega (arith, cells-more g v)
+
+-- ---- the words up to here are as they were
+module _ (words table words′ table′ : List ℕ) (s : Counts) (L : Laid words table s) (long-words : length words′ ≡ length words)
+    (rows : (i : ℕ) → i ≤ 5 * s .nodes → getD table′ i 0 ≡ getD table i 0) (filled : (i : ℕ) → i < s .used → getD words′ i 0 ≡ getD words i 0) where
+  -- so are the nodes
+  vertex-kept : (i : ℕ) → i < s .nodes → vertexIn words′ table′ i ≡ vertexIn words table i
+  unfolding vertexIn
+  vertex-kept i h =
+      let a : startIn table′ i ≡ startIn table i = rows (5 * i) (omega arith) in
+      let b : startIn table′ (suc i) ≡ startIn table (suc i) = rows (5 * suc i) (omega arith) in
+      let r = L .rising i h in
+      let t = start-before words table s L (s .nodes - suc i) (suc i) (omega arith) in
+      let p : part (startIn table i + 1) (startIn table (suc i) - (startIn table i + 1)) words′ ≡ part (startIn table i + 1) (startIn table (suc i) - (startIn table i + 1)) words =
+      part-same (startIn table i + 1) (startIn table (suc i) - (startIn table i + 1)) words′ words (omega (arith, L .fits, long-words)) (omega (arith, L .fits)) (λ k m. filled (startIn table i + 1 + k) (omega arith)) in
+      rw (a, b, p, rows (5 * i + 1) (omega arith), rows (5 * i + 2) (omega arith), rows (5 * i + 3) (omega arith), rows (5 * i + 4) (omega arith), filled (startIn table i) (omega arith))
+
+  pub graph-kept : (n : ℕ) → n ≤ s .nodes → graphIn words′ table′ n ≡ graphIn words table n
+  unfolding graphIn
+  graph-kept zero h = refl
+  graph-kept (suc n) h = ap₂ (λ (g : Graph) (v : Vertex). g ++ (v ∷ [])) (graph-kept n (omega arith)) (vertex-kept n (omega arith))
+
+-- ---- the rows, and what stands behind them
+-- the rows are as they were
+pub record SameRows (words table table′ : List ℕ) : Type 0 where
+  pub long : length table′ ≡ length table
+  pub rows : (i : ℕ) → i < rowsEnd words → getD table′ i 0 ≡ getD table i 0
+
+pub rows-same : (words table : List ℕ) → SameRows words table table
+rows-same words table = record { long = refl; rows = λ i h. refl }
+
+pub rows-then : (words table table′ table″ : List ℕ) → SameRows words table table′ → SameRows words table′ table″ → SameRows words table table″
+rows-then words table table′ table″ A B = record { long = B .long ∙ A .long; rows = λ i h. B .rows i h ∙ A .rows i h }
+
+-- a word behind them is written
+pub rows-set : (words table : List ℕ) (i v : ℕ) → rowsEnd words ≤ i → SameRows words table (set table i v)
+rows-set words table i v h = record { long = length-set table i v; rows = λ j l. getD-set-other table i j v 0 (λ e. omega (arith, e)) }
+
+-- a node starts where it did
+pub start-same : (words table table′ : List ℕ) (s : Counts) → Laid words table s → SameRows words table table′ → (i : ℕ) → i ≤ s .nodes → startIn table′ i ≡ startIn table i
+start-same words table table′ s L R i h = R .rows (5 * i) (omega (arith, nodes-few words table s L, L .fits))
+
+pub laid-rows : (words table table′ : List ℕ) (s : Counts) → SameRows words table table′ → Laid words table s → Laid words table′ s
+laid-rows words table table′ s R L = record {
+  wide = omega (arith, L .wide, R .long);
+  first = R .rows 0 (omega arith) ∙ L .first;
+  rising = λ i h. omega (arith, start-same words table table′ s L R i (omega arith), start-same words table table′ s L R (suc i) (omega arith), L .rising i h);
+  end = start-same words table table′ s L R (s .nodes) (omega arith) ∙ L .end;
+  fits = L .fits;
+  small = L .small;
+}
+
+-- then the same graph is held
+pub shows-rows : (words table table′ : List ℕ) (s : Counts) (g : Graph) → SameRows words table table′ → Shows words table s g → Shows words table′ s g
+shows-rows words table table′ s g R S =
+    let few = nodes-few words table s (S .laid) in
+    let e = graph-kept words table words table′ s (S .laid) refl (λ i h. R .rows i (omega (arith, S .laid .fits))) (λ i h. refl) (s .nodes) (omega arith) in
+    record { laid = laid-rows words table table′ s R (S .laid); like = subst (λ (h : Graph). Like h g) (sym e) (S .like) }
+
+-- from a place on, the words of a table are as they were
+pub record Unchanged (from : ℕ) (table table′ : List ℕ) : Type 0 where
+  pub long : length table′ ≡ length table
+  pub words : (i : ℕ) → from ≤ i → getD table′ i 0 ≡ getD table i 0
+
+pub unchanged-same : (from : ℕ) (table : List ℕ) → Unchanged from table table
+unchanged-same from table = record { long = refl; words = λ i h. refl }
+
+pub unchanged-then : (from : ℕ) (table table′ table″ : List ℕ) → Unchanged from table table′ → Unchanged from table′ table″ → Unchanged from table table″
+unchanged-then from table table′ table″ A B = record { long = B .long ∙ A .long; words = λ i h. B .words i h ∙ A .words i h }
+
+-- from a later place on, too
+pub unchanged-later : (from later : ℕ) (table table′ : List ℕ) → from ≤ later → Unchanged from table table′ → Unchanged later table table′
+unchanged-later from later table table′ h A = record { long = A .long; words = λ i l. A .words i (omega arith) }
+
+-- a word ahead of it is written
+pub unchanged-set : (from : ℕ) (table : List ℕ) (i v : ℕ) → i < from → Unchanged from table (set table i v)
+unchanged-set from table i v h = record { long = length-set table i v; words = λ j l. getD-set-other table i j v 0 (λ e. omega (arith, e)) }

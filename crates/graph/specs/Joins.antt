@@ -15,7 +15,7 @@ use Rattle.definition.specs.Graph.{Vertex, Graph, vertex, isVar, withFlex, join
 use Rattle.theory.specs.Unification.Forest.{SameLinks}
 use Rattle.theory.specs.Unification.Like.{SameVertex, like-linked, like-marked, placed-here, placed-there, join-linked, join-alike, flexed-links}
 use Rattle.graph.specs.declared.graph.Graph.{Graph as Counts}
-use Rattle.graph.specs.Cells.{startIn, linkWord, flexWord, linkIn, markIn, vertexIn, graphIn, length-graphIn, graph-at, Laid, Shows, start-before}
+use Rattle.graph.specs.Cells.{startIn, linkWord, flexWord, linkIn, markIn, vertexIn, graphIn, length-graphIn, graph-at, rowsEnd, Laid, nodes-few, Shows, start-before, Unchanged, unchanged-then, unchanged-set}
 use Rattle.graph.specs.Links.{word-kept, word-new, laid-word, vertices-kept, head-kept, args-kept, link-of, graph-past, linked-word}
 
 -- two roots, apart
@@ -154,15 +154,19 @@ apart-flexed words table s L x y m A = record {
   unlike = A .unlike;
 }
 
--- what joining and binding leave of whatever graph is held
+-- what joining and binding leave of whatever graph is held; behind the rows nothing changes
 abbrev pub Joins : List ℕ → List ℕ → List ℕ → Counts → ℕ → ℕ → Type 0
-Joins words table table′ s x y = (g : Graph) → Shows words table s g → Shows words table′ s (join g x y)
+Joins words table table′ s x y = ((g : Graph) → Shows words table s g → Shows words table′ s (join g x y)) × Unchanged (rowsEnd words) table table′
 
 abbrev pub Shares : List ℕ → List ℕ → List ℕ → Counts → ℕ → ℕ → Type 0
-Shares words table table′ s x y = Laid words table′ s × Apart table′ s x y × ((g : Graph) → Shows words table s g → Shows words table′ s (sharing g x y))
+Shares words table table′ s x y = Laid words table′ s × Apart table′ s x y × ((g : Graph) → Shows words table s g → Shows words table′ s (sharing g x y)) × Unchanged (rowsEnd words) table table′
 
 abbrev pub Binds : List ℕ → List ℕ → List ℕ → Counts → ℕ → ℕ → Type 0
-Binds words table table′ s x y = (g : Graph) → Shows words table s g → Shows words table′ s (bind g x y)
+Binds words table table′ s x y = ((g : Graph) → Shows words table s g → Shows words table′ s (bind g x y)) × Unchanged (rowsEnd words) table table′
+
+-- a word of a node's row is written
+pub behind-row : (words table : List ℕ) (s : Counts) → Laid words table s → (x k v : ℕ) → x < s .nodes → k < 5 → Unchanged (rowsEnd words) table (set table (5 * x + k) v)
+behind-row words table s L x k v l h = unchanged-set (rowsEnd words) table (5 * x + k) v (omega (arith, nodes-few words table s L, L .fits))
 
 -- a node's head stands in the cells
 pub head-there : (words table : List ℕ) (s : Counts) → Laid words table s → (x : ℕ) → x < s .nodes → startIn table x < length words
@@ -187,4 +191,4 @@ head-other g x r e f = ne-eqb (vertex g x .head) variableHead (λ q. f (e ∙ q)
 
 -- the mark, then the link: bound
 pub bound-by : (words table mid table′ : List ℕ) (s : Counts) (x y : ℕ) → Shares words table mid s x y → Joins words mid table′ s x y → Binds words table table′ s x y
-bound-by words table mid table′ s x y A B g S = subst (Shows words table′ s) (sym (bind-shares g x y)) (B (sharing g x y) (A .2 g S))
+bound-by words table mid table′ s x y A B = (λ g S. subst (Shows words table′ s) (sym (bind-shares g x y)) (B .0 (sharing g x y) (A .2 g S)), unchanged-then (rowsEnd words) table mid table′ (A .3) (B .1))

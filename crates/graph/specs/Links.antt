@@ -12,7 +12,7 @@ use Rattle.base.specs.Part.{part}
 use Rattle.theory.specs.Unification.Forest.{root-self, root-along, Linked, depth, shorter-depth}
 use Rattle.theory.specs.Unification.Like.{SameVertex, like-shorter}
 use Rattle.graph.specs.declared.graph.Graph.{Graph as Counts}
-use Rattle.graph.specs.Cells.{startIn, linkWord, linkIn, markIn, vertexIn, graphIn, length-graphIn, graph-at, Laid, room, Shows}
+use Rattle.graph.specs.Cells.{startIn, linkWord, linkIn, markIn, vertexIn, graphIn, length-graphIn, graph-at, rowsEnd, Laid, nodes-few, room, Shows, Unchanged, unchanged-same, unchanged-then, unchanged-set}
 
 -- ---- a word of a row, other than where its node starts, becomes v
 module _ (words table : List ℕ) (s : Counts) (L : Laid words table s) (x k v : ℕ) (l : x < s .nodes) (low : 1 ≤ k) (high : k < 5) where
@@ -137,17 +137,18 @@ module _ (words table : List ℕ) (s : Counts) (g : Graph) (S : Shows words tabl
 abbrev pub Holds : List ℕ → List ℕ → Counts → Type 0
 Holds words table s = (g : Graph) × Shows words table s g
 
--- what finding the root of x answers: it, of whatever graph is held, which is held still
+-- what finding the root of x answers: it, of whatever graph is held, which is held still; behind the rows nothing changes
 abbrev pub Found : List ℕ → List ℕ → List ℕ → Counts → ℕ → ℕ → Type 0
-Found words table table′ s x r = (r < s .nodes) × (linkWord table′ r ≡ 0) × ((g : Graph) → Shows words table s g → (r ≡ root g x) × Shows words table′ s g)
+Found words table table′ s x r = (r < s .nodes) × (linkWord table′ r ≡ 0) × ((g : Graph) → Shows words table s g → (r ≡ root g x) × Shows words table′ s g) × Unchanged (rowsEnd words) table table′
 
 -- on the way to it
 pub record Seeking (words before table : List ℕ) (s : Counts) (x at : ℕ) : Type 0 where
   pub there : at < s .nodes
   pub same : (g : Graph) → Shows words before s g → Shows words table s g × (root g at ≡ root g x)
+  pub behind : Unchanged (rowsEnd words) before table
 
 pub seeking-first : (words table : List ℕ) (s : Counts) (x : ℕ) → x < s .nodes → Seeking words table table s x x
-seeking-first words table s x l = record { there = l; same = λ g S. (S, refl) }
+seeking-first words table s x l = record { there = l; same = λ g S. (S, refl); behind = unchanged-same (rowsEnd words) table }
 
 module _ (words before table : List ℕ) (s : Counts) (x at : ℕ) (K : Seeking words before table s x at) (H : Holds words before s) where
   abbrev now-held : Shows words table s (H .0)
@@ -159,7 +160,7 @@ module _ (words before table : List ℕ) (s : Counts) (x at : ℕ) (K : Seeking 
 
   -- it has no link: it is the root
   pub found-at : linkWord table at ≡ 0 → Found words before table s x at
-  found-at e = (K .there, e, λ g S. let k = K .same g S in (sym (found-here words table s g (k .0) at (K .there) e) ∙ k .1, k .0))
+  found-at e = (K .there, e, λ g S. let k = K .same g S in (sym (found-here words table s g (k .0) at (K .there) e) ∙ k .1, k .0), K .behind)
 
   module _ (y : ℕ) (up : linkWord table at ≡ suc y) where
     pub next-there : y < s .nodes
@@ -170,7 +171,7 @@ module _ (words before table : List ℕ) (s : Counts) (x at : ℕ) (K : Seeking 
     found-next e =
         let same : (g : Graph) → Shows words before s g → (y ≡ root g x) × Shows words table s g =
         λ g S. let k = K .same g S in (sym (found-here words table s g (k .0) y next-there e) ∙ sym (found-there words table s g (k .0) at (K .there) y up .1) ∙ k .1, k .0) in
-        (next-there, e, same)
+        (next-there, e, same, K .behind)
 
     -- it has one: the walk goes on behind it
     module _ (z : ℕ) (upper : linkWord table y ≡ suc z) where
@@ -180,6 +181,9 @@ module _ (words before table : List ℕ) (s : Counts) (x at : ℕ) (K : Seeking 
         same = λ g S.
             let k = K .same g S in
             (shows-shorter words table s g (k .0) at y z (K .there) up upper, sym (found-there words table s g (k .0) y next-there z upper .1) ∙ sym (found-there words table s g (k .0) at (K .there) y up .1) ∙ k .1);
+        behind =
+            unchanged-then (rowsEnd words) before table (set table (5 * at + 1) (suc z)) (K .behind)
+            (unchanged-set (rowsEnd words) table (5 * at + 1) (suc z) (omega (arith, K .there, nodes-few words table s (now-held .laid), now-held .laid .fits)));
       }
 
       pub seeking-less : depth (s .nodes) (graphIn words (set table (5 * at + 1) (suc z)) (s .nodes)) z < depth (s .nodes) (graphIn words table (s .nodes)) at

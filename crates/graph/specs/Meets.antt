@@ -2,7 +2,8 @@
 use mathlib.Core.Path.{_≡_, sym, ap, _∙_}
 use mathlib.Core.Bool.{Bool, true, false, _||_}
 use mathlib.Core.List.{List}
-use Prim.Native.Nat.{ℕ, _<_}
+use Prim.Native.Nat.{ℕ, _+_, _*_, _<_}
+use native.Mathlib.Omega.{arith}
 use borrow.Author.Tests.{eq-eqb, ne-eqb}
 use lib.Dec.{eqb}
 use Rattle.definition.specs.Test.{is, see}
@@ -11,8 +12,9 @@ use Rattle.definition.specs.Graph.{Graph, Pair, on, clashed, vertex, isFree, is
 use Rattle.graph.specs.declared.graph.Graph.{Graph as Counts}
 use Rattle.graph.specs.declared.meet.Met.{Met}
 use Rattle.graph.specs.declared.meet.Met.the-variants.{On, Clash}
-use Rattle.graph.specs.Cells.{linkWord, Shows}
-use Rattle.graph.specs.Pairs.{pairsIn}
+use Rattle.graph.specs.Cells.{linkWord, rowsEnd, Laid, nodes-few, Shows, SameRows, shows-rows, Unchanged, unchanged-then, unchanged-later}
+use Rattle.graph.specs.Joins.{Apart, Joins, Binds}
+use Rattle.graph.specs.Pairs.{pairsEnd, pairsIn, pairs-same, PairsOn}
 
 -- ---- what the definition says, test by test
 module _ (g : Graph) (x y : ℕ) (work : List Pair) where
@@ -70,7 +72,40 @@ module _ (g : Graph) (x y : ℕ) (work : List Pair) (apart : x ≡ y → ⊥) (l
 abbrev pub Rooted : List ℕ → Counts → ℕ → Type 0
 Rooted table s x = (x < s .nodes) × (linkWord table x ≡ 0)
 
--- what a turn answers, of whatever graph is held: the graph and the pairs behind it, or a clash
-abbrev pub Meets : List ℕ → List ℕ → List ℕ → List ℕ → List ℕ → Counts → ℕ → ℕ → ℕ → Met → Type 0
-Meets words table table′ pairs pairs′ s top x y (On t) = (g : Graph) → Shows words table s g → (h : Graph) × (meet g x y (pairsIn pairs top) ≡ on h (pairsIn pairs′ t)) × Shows words table′ s h
-Meets words table table′ pairs pairs′ s top x y Clash = (g : Graph) → Shows words table s g → meet g x y (pairsIn pairs top) ≡ clashed
+-- what a turn answers, of whatever graph is held: the graph and the pairs behind it, or a clash; beyond the pairs nothing changes
+abbrev pub Meets : List ℕ → List ℕ → List ℕ → Counts → ℕ → ℕ → ℕ → Met → Type 0
+Meets words table table′ s top x y (On t) =
+    ((g : Graph) → Shows words table s g → (h : Graph) × (meet g x y (pairsIn (rowsEnd words) table top) ≡ on h (pairsIn (rowsEnd words) table′ t)) × Shows words table′ s h)
+    × Unchanged (pairsEnd words) table table′
+Meets words table table′ s top x y Clash = ((g : Graph) → Shows words table s g → meet g x y (pairsIn (rowsEnd words) table top) ≡ clashed) × Unchanged (pairsEnd words) table table′
+
+-- two roots are apart still where the rows are the same
+pub apart-rows : (words table table′ : List ℕ) (s : Counts) (x y : ℕ) → SameRows words table table′ → Laid words table s → Apart table s x y → Apart table′ s x y
+apart-rows words table table′ s x y R L A =
+    let n = nodes-few words table s L in
+    record {
+      left = A .left;
+      right = A .right;
+      free = R .rows (5 * x + 1) (omega (arith, A .left, L .fits)) ∙ A .free;
+      bare = R .rows (5 * y + 1) (omega (arith, A .right, L .fits)) ∙ A .bare;
+      unlike = A .unlike;
+    }
+
+-- a free side was bound
+pub meets-bound : (words table table′ : List ℕ) (s : Counts) (top x y a b : ℕ) → ((g : Graph) → Shows words table s g → (ps : List Pair) → meet g x y ps ≡ on (bind g a b) ps) → Binds words table table′ s a b → Meets words table table′ s top x y (On top)
+meets-bound words table table′ s top x y a b met B = (
+  λ g S. (bind g a b, met g S (pairsIn (rowsEnd words) table top) ∙ ap (on (bind g a b)) (sym (pairs-same (rowsEnd words) table table′ (B .1) top)), B .0 g S),
+  unchanged-later (rowsEnd words) (pairsEnd words) table table′ (omega arith) (B .1),
+)
+
+-- like heads were joined behind their arguments' pairs
+pub meets-joined : (words table mid table′ : List ℕ) (s : Counts) (top x y t : ℕ) → ((g : Graph) → Shows words table s g → (ps : List Pair) → meet g x y ps ≡ on (join g x y) (lastFirst (vertex g x .args) (vertex g y .args) ps))
+    → PairsOn words table mid s top x y t → Joins words mid table′ s x y → Meets words table table′ s top x y (On t)
+meets-joined words table mid table′ s top x y t met A B = (
+  λ g S. (
+    join g x y,
+    met g S (pairsIn (rowsEnd words) table top) ∙ ap (on (join g x y)) (sym (A .pairs g S) ∙ sym (pairs-same (rowsEnd words) mid table′ (B .1) t)),
+    B .0 g (shows-rows words table mid s g (A .rows) S),
+  ),
+  unchanged-then (pairsEnd words) table mid table′ (A .beyond) (unchanged-later (rowsEnd words) (pairsEnd words) mid table′ (omega arith) (B .1)),
+)

@@ -1,4 +1,4 @@
--- The pairs still to be taken, on a stack of two words each.
+-- The pairs still to be taken, on a stack of two words each behind the rows.
 use mathlib.Core.Path.{_≡_, refl, sym, ap, ap₂, _∙_}
 use mathlib.Core.Bool.{Bool, true, false, not}
 use mathlib.Core.List.{List, [], _∷_}
@@ -12,18 +12,31 @@ use lib.Seq.{drop-cons, getD-set-same, getD-set-other}
 use Rattle.definition.specs.Graph.{Vertex, Graph, Pair, vertex, isVar, isFree, lastFirst}
 use Rattle.base.specs.Part.{part, length-part, part-at}
 use Rattle.graph.specs.declared.graph.Graph.{Graph as Counts}
-use Rattle.graph.specs.Cells.{startIn, rigidWord, markIn, vertexIn, length-graphIn, graph-at, Laid, Shows, start-before}
+use Rattle.graph.specs.Cells.{startIn, rigidWord, markIn, vertexIn, length-graphIn, graph-at, rowsEnd, Laid, Shows, start-before, SameRows, rows-same, rows-then, rows-set, shows-rows, Unchanged, unchanged-same, unchanged-then, unchanged-set}
 use Rattle.graph.specs.Links.{Holds}
 
--- the first n pairs, the last one on top
-unfoldable pub pairsIn : List ℕ → ℕ → List Pair
-pairsIn pairs zero = []
-pairsIn pairs (suc n) = record { left = getD pairs (2 * n) 0; right = getD pairs (2 * n + 1) 0 } ∷ pairsIn pairs n
+-- where the stack ends: a pair for each cell, and one more
+abbrev pub pairsEnd : List ℕ → ℕ
+pairsEnd words = rowsEnd words + 2 * length words + 2
 
-pub length-pairsIn : (pairs : List ℕ) (n : ℕ) → length (pairsIn pairs n) ≡ n
+-- the first n pairs from a place on, the last one on top
+unfoldable pub pairsIn : ℕ → List ℕ → ℕ → List Pair
+pairsIn from table zero = []
+pairsIn from table (suc n) = record { left = getD table (from + 2 * n) 0; right = getD table (from + 2 * n + 1) 0 } ∷ pairsIn from table n
+
+pub length-pairsIn : (from : ℕ) (table : List ℕ) (n : ℕ) → length (pairsIn from table n) ≡ n
 unfolding pairsIn
-length-pairsIn pairs zero = refl
-length-pairsIn pairs (suc n) = ap suc (length-pairsIn pairs n)
+length-pairsIn from table zero = refl
+length-pairsIn from table (suc n) = ap suc (length-pairsIn from table n)
+
+-- they are the same where the words are
+pub pairs-same : (from : ℕ) (table table′ : List ℕ) → Unchanged from table table′ → (n : ℕ) → pairsIn from table′ n ≡ pairsIn from table n
+unfolding pairsIn
+pairs-same from table table′ U zero = refl
+pairs-same from table table′ U (suc n) =
+    ap₂ (λ (p : Pair) (ps : List Pair). p ∷ ps)
+    (ap₂ (λ (a b : ℕ). record { left = a; right = b }) (U .words (from + 2 * n) (omega arith)) (U .words (from + 2 * n + 1) (omega arith)))
+    (pairs-same from table table′ U n)
 
 -- of whatever graph is held: how many arguments a node has, one of them, whether it is a free variable
 abbrev pub ArityOf : List ℕ → List ℕ → Counts → ℕ → ℕ → Type 0
@@ -35,9 +48,15 @@ ArgumentOf words table s x i r = (g : Graph) → Shows words table s g → r ≡
 abbrev pub FreeOf : List ℕ → List ℕ → Counts → ℕ → Bool → Type 0
 FreeOf words table s x r = (g : Graph) → Shows words table s g → r ≡ isFree (vertex g x)
 
--- the arguments of x and y side by side were put on the stack
-abbrev pub PairsOn : List ℕ → List ℕ → List ℕ → List ℕ → Counts → ℕ → ℕ → ℕ → ℕ → Type 0
-PairsOn words table pairs pairs′ s top x y r = (g : Graph) → Shows words table s g → pairsIn pairs′ r ≡ lastFirst (vertex g x .args) (vertex g y .args) (pairsIn pairs top)
+-- behind so many pairs there is room for the arguments of x
+abbrev pub PairsRoom : List ℕ → List ℕ → ℕ → ℕ → Type 0
+PairsRoom words table top x = (rowsEnd words + 2 * top + 2 * (startIn table (x + 1) - (startIn table x + 1)) ≤ length table) × (2 * top + 2 * (startIn table (x + 1) - (startIn table x + 1)) ≤ 2 * length words + 2)
+
+-- the arguments of x and y side by side were put on the stack, and nothing else was written
+pub record PairsOn (words table table′ : List ℕ) (s : Counts) (top x y r : ℕ) : Type 0 where
+  pub rows : SameRows words table table′
+  pub beyond : Unchanged (pairsEnd words) table table′
+  pub pairs : (g : Graph) → Shows words table s g → pairsIn (rowsEnd words) table′ r ≡ lastFirst (vertex g x .args) (vertex g y .args) (pairsIn (rowsEnd words) table top)
 
 -- ---- a node's arguments
 -- a node ends where the next one starts, however that is written
@@ -99,23 +118,24 @@ abbrev pair : ℕ → ℕ → Pair
 pair a b = record { left = a; right = b }
 
 -- what stands behind the pairs is no matter to them
-pairs-kept : (pairs : List ℕ) (n i v : ℕ) → 2 * n ≤ i → pairsIn (set pairs i v) n ≡ pairsIn pairs n
+pairs-kept : (from : ℕ) (table : List ℕ) (n i v : ℕ) → from + 2 * n ≤ i → pairsIn from (set table i v) n ≡ pairsIn from table n
 unfolding pairsIn
-pairs-kept pairs zero i v h = refl
-pairs-kept pairs (suc n) i v h =
+pairs-kept from table zero i v h = refl
+pairs-kept from table (suc n) i v h =
     ap₂ (λ (p : Pair) (ps : List Pair). p ∷ ps)
-    (ap₂ pair (getD-set-other pairs i (2 * n) v 0 (λ e. omega (arith, e))) (getD-set-other pairs i (2 * n + 1) v 0 (λ e. omega (arith, e))))
-    (pairs-kept pairs n i v (omega arith))
+    (ap₂ pair (getD-set-other table i (from + 2 * n) v 0 (λ e. omega (arith, e))) (getD-set-other table i (from + 2 * n + 1) v 0 (λ e. omega (arith, e))))
+    (pairs-kept from table n i v (omega arith))
 
 -- a pair more
-pairs-more : (pairs : List ℕ) (n a b : ℕ) → 2 * n + 2 ≤ length pairs → pairsIn (set (set pairs (2 * n) a) (2 * n + 1) b) (suc n) ≡ pair a b ∷ pairsIn pairs n
+pub pairs-more : (from : ℕ) (table : List ℕ) (n a b : ℕ) → from + 2 * n + 2 ≤ length table → pairsIn from (set (set table (from + 2 * n) a) (from + 2 * n + 1) b) (suc n) ≡ pair a b ∷ pairsIn from table n
 unfolding pairsIn
-pairs-more pairs n a b h =
+pairs-more from table n a b h =
+    let i : ℕ = from + 2 * n in
     ap₂ (λ (p : Pair) (ps : List Pair). p ∷ ps)
     (ap₂ pair
-    (getD-set-other (set pairs (2 * n) a) (2 * n + 1) (2 * n) b 0 (λ e. omega (arith, e)) ∙ getD-set-same pairs (2 * n) a 0 (omega arith))
-    (getD-set-same (set pairs (2 * n) a) (2 * n + 1) b 0 (omega (arith, length-set pairs (2 * n) a))))
-    (pairs-kept (set pairs (2 * n) a) n (2 * n + 1) b (omega arith) ∙ pairs-kept pairs n (2 * n) a (omega arith))
+    (getD-set-other (set table i a) (i + 1) i b 0 (λ e. omega (arith, e)) ∙ getD-set-same table i a 0 (omega arith))
+    (getD-set-same (set table i a) (i + 1) b 0 (omega (arith, length-set table i a))))
+    (pairs-kept from (set table i a) n (i + 1) b (omega arith) ∙ pairs-kept from table n i a (omega arith))
 
 -- the arguments from i on still to be put there, and all of them
 side-more : (xs ys : List ℕ) (i : ℕ) (w : List Pair) → i < length xs → i < length ys → lastFirst (drop (suc i) xs) (drop (suc i) ys) (pair (getD xs i 0) (getD ys i 0) ∷ w) ≡ lastFirst (drop i xs) (drop i ys) w
@@ -129,51 +149,72 @@ side-none (x ∷ xs) [] w e = refl
 side-none (x ∷ xs) (y ∷ ys) w e = absurd (omega arith)
 
 -- after i turns: there is room for the n pairs, and those still to be put there give the whole
-pub record Piled (words table : List ℕ) (s : Counts) (x y : ℕ) (pairs₀ : List ℕ) (top n : ℕ) (pairs : List ℕ) (i : ℕ) : Type 0 where
+pub record Piled (words before : List ℕ) (s : Counts) (x y top n : ℕ) (table : List ℕ) (i : ℕ) : Type 0 where
   pub low : i ≤ n
-  pub long : length pairs ≡ length pairs₀
-  pub fits : 2 * (top + n) ≤ length pairs
-  pub rest : (g : Graph) → Shows words table s g → lastFirst (drop i (vertex g x .args)) (drop i (vertex g y .args)) (pairsIn pairs (top + i)) ≡ lastFirst (vertex g x .args) (vertex g y .args) (pairsIn pairs₀ top)
+  pub few : 2 * (top + n) ≤ 2 * length words + 2
+  pub fits : rowsEnd words + 2 * (top + n) ≤ length table
+  pub rows : SameRows words before table
+  pub beyond : Unchanged (pairsEnd words) before table
+  pub rest : (g : Graph) → Shows words before s g → lastFirst (drop i (vertex g x .args)) (drop i (vertex g y .args)) (pairsIn (rowsEnd words) table (top + i)) ≡ lastFirst (vertex g x .args) (vertex g y .args) (pairsIn (rowsEnd words) before top)
 
-module _ (words table : List ℕ) (s : Counts) (x y a b n : ℕ) (A : ArityOf words table s x a) (B : ArityOf words table s y b) (m : n ≡ min a b) (pairs₀ : List ℕ) (top : ℕ) where
-  pub pile-none : Holds words table s → x < s .nodes → 2 * top + 2 * (startIn table (x + 1) - (startIn table x + 1)) ≤ length pairs₀ → Piled words table s x y pairs₀ top n pairs₀ 0
-  pile-none H l h = record {
-    low = omega arith;
-    long = refl;
-    fits = omega (arith, A (H .0) (H .1), arity-of words table s (H .0) (H .1) x l);
-    rest = λ g S. let e : top + 0 ≡ top = omega arith in ap (λ (k : ℕ). lastFirst (vertex g x .args) (vertex g y .args) (pairsIn pairs₀ k)) e;
-  }
+module _ (words before : List ℕ) (s : Counts) (x y a b n : ℕ) (A : ArityOf words before s x a) (B : ArityOf words before s y b) (m : n ≡ min a b) (top : ℕ) where
+  pub pile-none : Holds words before s → x < s .nodes → PairsRoom words before top x → Piled words before s x y top n before 0
+  pile-none H l h =
+      let e = arity-of words before s (H .0) (H .1) x l in
+      record {
+        low = omega arith;
+        few = omega (arith, A (H .0) (H .1), h .1);
+        fits = omega (arith, A (H .0) (H .1), h .0);
+        rows = rows-same words before;
+        beyond = unchanged-same (pairsEnd words) before;
+        rest = λ g S. let e : top + 0 ≡ top = omega arith in ap (λ (k : ℕ). lastFirst (vertex g x .args) (vertex g y .args) (pairsIn (rowsEnd words) before k)) e;
+      }
 
-  module _ (pairs : List ℕ) (i : ℕ) (P : Piled words table s x y pairs₀ top n pairs i) where
+  module _ (table : List ℕ) (i : ℕ) (P : Piled words before s x y top n table i) where
+    -- what was held is held still
+    pub pile-held : (g : Graph) → Shows words before s g → Shows words table s g
+    pile-held g S = shows-rows words before table s g (P .rows) S
+
     -- the arguments of either that are taken
-    pub pile-left : Holds words table s → x < s .nodes → i < n → startIn table x + 1 + i < startIn table (x + 1)
-    pile-left H l h = argument-there words table s (H .0) (H .1) x l i (omega (arith, A (H .0) (H .1)))
+    pub pile-left : Holds words before s → x < s .nodes → i < n → startIn table x + 1 + i < startIn table (x + 1)
+    pile-left H l h = argument-there words table s (H .0) (pile-held (H .0) (H .1)) x l i (omega (arith, A (H .0) (H .1)))
 
-    pub pile-right : Holds words table s → y < s .nodes → i < n → startIn table y + 1 + i < startIn table (y + 1)
-    pile-right H l h = argument-there words table s (H .0) (H .1) y l i (omega (arith, B (H .0) (H .1)))
+    pub pile-right : Holds words before s → y < s .nodes → i < n → startIn table y + 1 + i < startIn table (y + 1)
+    pile-right H l h = argument-there words table s (H .0) (pile-held (H .0) (H .1)) y l i (omega (arith, B (H .0) (H .1)))
 
-    pub pile-more : (v w : ℕ) → i < n → ArgumentOf words table s x i v → ArgumentOf words table s y i w → Piled words table s x y pairs₀ top n (set (set pairs (2 * (top + i)) v) (2 * (top + i) + 1) w) (i + 1)
+    pub pile-more : (v w : ℕ) → i < n → ArgumentOf words table s x i v → ArgumentOf words table s y i w
+        → Piled words before s x y top n (set (set table (rowsEnd words + 2 * (top + i)) v) (rowsEnd words + 2 * (top + i) + 1) w) (i + 1)
     pile-more v w h left right =
-        let k : length (set (set pairs (2 * (top + i)) v) (2 * (top + i) + 1) w) ≡ length pairs = length-set (set pairs (2 * (top + i)) v) (2 * (top + i) + 1) w ∙ length-set pairs (2 * (top + i)) v in
+        let at : ℕ = rowsEnd words + 2 * (top + i) in
+        let first : List ℕ = set table at v in
+        let both : List ℕ = set first (at + 1) w in
+        let k : length both ≡ length table = length-set first (at + 1) w ∙ length-set table at v in
         record {
           low = omega arith;
-          long = k ∙ P .long;
+          few = P .few;
           fits = omega (arith, k, P .fits);
+          rows = rows-then words before table both (P .rows) (rows-then words table first both (rows-set words table at v (omega arith)) (rows-set words first (at + 1) w (omega arith)));
+          beyond = unchanged-then (pairsEnd words) before table both (P .beyond) (unchanged-then (pairsEnd words) table first both (unchanged-set (pairsEnd words) table at v (omega (arith, P .few))) (unchanged-set (pairsEnd words) first (at + 1) w (omega (arith, P .few))));
           rest = λ g S.
               let xs : List ℕ = vertex g x .args in
               let ys : List ℕ = vertex g y .args in
               let e : top + (i + 1) ≡ suc (top + i) = omega arith in
+              let T = pile-held g S in
               ap₂ (λ (j : ℕ) (ps : List Pair). lastFirst (drop j xs) (drop j ys) ps) (add-one i)
-              (ap (pairsIn (set (set pairs (2 * (top + i)) v) (2 * (top + i) + 1) w)) e ∙ pairs-more pairs (top + i) v w (omega (arith, P .fits)) ∙ ap₂ (λ (l r : ℕ). pair l r ∷ pairsIn pairs (top + i)) (left g S) (right g S))
-              ∙ side-more xs ys i (pairsIn pairs (top + i)) (omega (arith, A g S)) (omega (arith, B g S))
+              (ap (pairsIn (rowsEnd words) both) e ∙ pairs-more (rowsEnd words) table (top + i) v w (omega (arith, P .fits)) ∙ ap₂ (λ (l r : ℕ). pair l r ∷ pairsIn (rowsEnd words) table (top + i)) (left g T) (right g T))
+              ∙ side-more xs ys i (pairsIn (rowsEnd words) table (top + i)) (omega (arith, A g S)) (omega (arith, B g S))
               ∙ P .rest g S;
         }
 
-    pub pile-all : n ≤ i → PairsOn words table pairs₀ pairs s top x y (top + n)
-    pile-all h g S =
-        let e : i ≡ n = omega (arith, P .low) in
-        let xs : List ℕ = vertex g x .args in
-        let ys : List ℕ = vertex g y .args in
-        ap (λ (k : ℕ). pairsIn pairs (top + k)) (sym e)
-        ∙ sym (side-none (drop i xs) (drop i ys) (pairsIn pairs (top + i)) (omega (arith, length-drop i xs, length-drop i ys, A g S, B g S)))
-        ∙ P .rest g S
+    pub pile-all : n ≤ i → PairsOn words before table s top x y (top + n)
+    pile-all h = record {
+      rows = P .rows;
+      beyond = P .beyond;
+      pairs = λ g S.
+          let e : i ≡ n = omega (arith, P .low) in
+          let xs : List ℕ = vertex g x .args in
+          let ys : List ℕ = vertex g y .args in
+          ap (λ (k : ℕ). pairsIn (rowsEnd words) table (top + k)) (sym e)
+          ∙ sym (side-none (drop i xs) (drop i ys) (pairsIn (rowsEnd words) table (top + i)) (omega (arith, length-drop i xs, length-drop i ys, A g S, B g S)))
+          ∙ P .rest g S;
+    }

@@ -9,12 +9,13 @@ use lib.ListN.{length, getD, set, length-set}
 use lib.Seq.{getD-set-same, getD-set-other}
 use Rattle.definition.specs.Store.{nothing, variableHead}
 use Rattle.definition.specs.Graph.{Vertex, Graph, variableVertex, applied, vertex, cells}
-use Rattle.base.specs.Part.{part, put, part-same, length-put, part-put, put-before}
+use Rattle.base.specs.declared.id.Node.{Node}
+use Rattle.base.specs.Part.{part, put, length-put, part-put, put-before}
 use Rattle.theory.specs.Unification.Like.{Like, like-same, like-more, same-vertex}
 use Rattle.graph.specs.declared.graph.Graph.{Graph as Counts}
 use Rattle.graph.specs.declared.graph.Pushed.{Pushed}
-use Rattle.graph.specs.declared.graph.Pushed.the-variants.{Node, Short}
-use Rattle.graph.specs.Cells.{startIn, linkWord, sortWord, flexWord, rigidWord, markIn, vertexIn, graphIn, length-graphIn, Laid, Shows, start-before, cells-used}
+use Rattle.graph.specs.declared.graph.Pushed.the-variants.{At, Short}
+use Rattle.graph.specs.Cells.{startIn, linkWord, sortWord, flexWord, rigidWord, markIn, vertexIn, graphIn, length-graphIn, graph-kept, rowsEnd, Laid, Shows, nodes-few, cells-used, Unchanged, unchanged-then, unchanged-later, unchanged-set}
 
 -- ---- no node
 pub shows-none : (words table : List ℕ) → 5 * length words + 5 ≤ length table → length words < 4294967295 → startIn table 0 ≡ 0 → Shows words table (record { nodes = 0; used = 0 }) []
@@ -27,23 +28,6 @@ shows-none words table wide small z = record {
 -- ---- the words up to here are as they were
 module _ (words table words′ table′ : List ℕ) (s : Counts) (L : Laid words table s) (long-words : length words′ ≡ length words) (long-table : length table′ ≡ length table)
     (rows : (i : ℕ) → i ≤ 5 * s .nodes → getD table′ i 0 ≡ getD table i 0) (filled : (i : ℕ) → i < s .used → getD words′ i 0 ≡ getD words i 0) where
-  -- so are the nodes
-  vertex-kept : (i : ℕ) → i < s .nodes → vertexIn words′ table′ i ≡ vertexIn words table i
-  unfolding vertexIn
-  vertex-kept i h =
-      let a : startIn table′ i ≡ startIn table i = rows (5 * i) (omega arith) in
-      let b : startIn table′ (suc i) ≡ startIn table (suc i) = rows (5 * suc i) (omega arith) in
-      let r = L .rising i h in
-      let t = start-before words table s L (s .nodes - suc i) (suc i) (omega arith) in
-      let p : part (startIn table i + 1) (startIn table (suc i) - (startIn table i + 1)) words′ ≡ part (startIn table i + 1) (startIn table (suc i) - (startIn table i + 1)) words =
-      part-same (startIn table i + 1) (startIn table (suc i) - (startIn table i + 1)) words′ words (omega (arith, L .fits, long-words)) (omega (arith, L .fits)) (λ k m. filled (startIn table i + 1 + k) (omega arith)) in
-      rw (a, b, p, rows (5 * i + 1) (omega arith), rows (5 * i + 2) (omega arith), rows (5 * i + 3) (omega arith), rows (5 * i + 4) (omega arith), filled (startIn table i) (omega arith))
-
-  graph-kept : (n : ℕ) → n ≤ s .nodes → graphIn words′ table′ n ≡ graphIn words table n
-  unfolding graphIn
-  graph-kept zero h = refl
-  graph-kept (suc n) h = ap₂ (λ (g : Graph) (v : Vertex). g ++ (v ∷ [])) (graph-kept n (omega arith)) (vertex-kept n (omega arith))
-
   -- a node more, which takes the cells up to `end`
   module _ (end : ℕ) (next : startIn table′ (suc (s .nodes)) ≡ end) (more : s .used + 1 ≤ end) (fits : end ≤ length words) where
     abbrev grown : Counts
@@ -71,7 +55,7 @@ module _ (words table words′ table′ : List ℕ) (s : Counts) (L : Laid words
       laid = laid-more;
       like =
           let q : s .nodes + 1 ≡ suc (s .nodes) = omega arith in
-          let c : graphIn words′ table′ (s .nodes + 1) ≡ graphIn words table (s .nodes) ++ (v ∷ []) = ap (graphIn words′ table′) q ∙ ap₂ (λ (h : Graph) (w : Vertex). h ++ (w ∷ [])) (graph-kept (s .nodes) (omega arith)) e in
+          let c : graphIn words′ table′ (s .nodes + 1) ≡ graphIn words table (s .nodes) ++ (v ∷ []) = ap (graphIn words′ table′) q ∙ ap₂ (λ (h : Graph) (w : Vertex). h ++ (w ∷ [])) (graph-kept words table words′ table′ s L long-words rows filled (s .nodes) (omega arith)) e in
           subst (λ (h : Graph). Like h (g ++ (v ∷ []))) (sym c) (like-more (graphIn words table (s .nodes)) g (S .like) v v bare bare (same-vertex v));
     }
 
@@ -96,6 +80,7 @@ pub record Rows (table table′ : List ℕ) (s : Counts) (sort flex rigid end : 
   pub flexed : flexWord table′ (s .nodes) ≡ flex
   pub fixed : rigidWord table′ (s .nodes) ≡ rigid
   pub next : startIn table′ (suc (s .nodes)) ≡ end
+  pub behind : Unchanged (5 * s .nodes + 6) table table′
 
 -- five words written one behind the other
 pub rows-written : (table : List ℕ) (s : Counts) (sort flex rigid end : ℕ) → 5 * s .nodes + 6 ≤ length table
@@ -121,11 +106,18 @@ rows-written table s sort flex rigid end h =
       flexed = getD-set-other t4 (a + 5) (a + 3) end 0 (λ e. omega arith) ∙ getD-set-other t3 (a + 4) (a + 3) rigid 0 (λ e. omega arith) ∙ getD-set-same t2 (a + 3) flex 0 (omega (arith, l2));
       fixed = getD-set-other t4 (a + 5) (a + 4) end 0 (λ e. omega arith) ∙ getD-set-same t3 (a + 4) rigid 0 (omega (arith, l3));
       next = let q : 5 * suc (s .nodes) ≡ a + 5 = omega arith in ap (λ (i : ℕ). getD (set t4 (a + 5) end) i 0) q ∙ getD-set-same t4 (a + 5) end 0 (omega (arith, l4));
+      behind =
+          let f : ℕ = a + 6 in
+          unchanged-then f table t4 (set t4 (a + 5) end)
+          (unchanged-then f table t3 t4
+          (unchanged-then f table t2 t3 (unchanged-then f table t1 t2 (unchanged-set f table (a + 1) 0 (omega arith)) (unchanged-set f t1 (a + 2) sort (omega arith))) (unchanged-set f t2 (a + 3) flex (omega arith)))
+          (unchanged-set f t3 (a + 4) rigid (omega arith)))
+          (unchanged-set f t4 (a + 5) end (omega arith));
     }
 
--- what a node more answers: its number and the graph with it, or that the cells have no room for it
+-- what a node more answers: its number and the graph with it, or that the cells have no room for it; behind the rows nothing changes
 abbrev pub Pushes : List ℕ → List ℕ → List ℕ → List ℕ → Counts → Vertex → Pushed → Type 0
-Pushes words words′ table table′ s v (Node n s′) = (g : Graph) → Shows words table s g → (n ≡ length g) × Shows words′ table′ s′ (g ++ (v ∷ []))
+Pushes words words′ table table′ s v (At n s′) = ((g : Graph) → Shows words table s g → (n .0 ≡ length g) × Shows words′ table′ s′ (g ++ (v ∷ []))) × Unchanged (rowsEnd words) table table′
 Pushes words words′ table table′ s v Short = (g : Graph) → Shows words table s g → length words < cells g + suc (length (v .args))
 
 -- no room
@@ -137,21 +129,23 @@ module _ (words table words′ table′ : List ℕ) (s : Counts) (L : Laid words
   starts-there : startIn table′ (s .nodes) ≡ s .used
   starts-there = R .rows (5 * s .nodes) (omega arith) ∙ L .end
 
-  pub node-more : (head : ℕ) (args : List ℕ) → getD words′ (s .used) 0 ≡ head → part (s .used + 1) (end - (s .used + 1)) words′ ≡ args
-      → Pushes words words′ table table′ s (record { head = head; args = args; link = none; sort = sort; flex = markIn flex; rigid = markIn rigid }) (Node (s .nodes) (record { nodes = s .nodes + 1; used = end }))
+  pub node-more : (n : Node) → n .0 ≡ s .nodes → (head : ℕ) (args : List ℕ) → getD words′ (s .used) 0 ≡ head → part (s .used + 1) (end - (s .used + 1)) words′ ≡ args
+      → Pushes words words′ table table′ s (record { head = head; args = args; link = none; sort = sort; flex = markIn flex; rigid = markIn rigid }) (At n (record { nodes = s .nodes + 1; used = end }))
   unfolding vertexIn
-  node-more head args h a g S =
+  node-more n n-is head args h a =
       let v : Vertex = record { head = head; args = args; link = none; sort = sort; flex = markIn flex; rigid = markIn rigid } in
-      let e : vertexIn words′ table′ (s .nodes) ≡ v = rw (starts-there, R .next, R .link, R .sorted, R .flexed, R .fixed, h, a) in
-      (sym (length-graphIn words table (s .nodes)) ∙ S .like .long, shows-more words table words′ table′ s L long (R .long) (R .rows) filled end (R .next) more fits g S v refl e)
+      let e : vertexIn words′ table′ (s .nodes) ≡ v = rw (starts-there, R .next, R .link, R .sorted, R .flexed, R .fixed, h, a) in (
+        λ g S. (n-is ∙ sym (length-graphIn words table (s .nodes)) ∙ S .like .long, shows-more words table words′ table′ s L long (R .long) (R .rows) filled end (R .next) more fits g S v refl e),
+        unchanged-later (5 * s .nodes + 6) (rowsEnd words) table table′ (omega (arith, nodes-few words table s L)) (R .behind),
+      )
 
 -- a variable takes one cell
-pub var-pushed : (words table table′ : List ℕ) (s : Counts) → Laid words table s → s .used < length words → (sort flex rigid : ℕ) → Rows table table′ s sort flex rigid (s .used + 1)
-    → Pushes words (set words (s .used) variableHead) table table′ s (variableVertex sort (markIn flex) (markIn rigid)) (Node (s .nodes) (record { nodes = s .nodes + 1; used = s .used + 1 }))
+pub var-pushed : (words table table′ : List ℕ) (s : Counts) (n : Node) → n .0 ≡ s .nodes → Laid words table s → s .used < length words → (sort flex rigid : ℕ) → Rows table table′ s sort flex rigid (s .used + 1)
+    → Pushes words (set words (s .used) variableHead) table table′ s (variableVertex sort (markIn flex) (markIn rigid)) (At n (record { nodes = s .nodes + 1; used = s .used + 1 }))
 unfolding part
-var-pushed words table table′ s L h sort flex rigid R =
+var-pushed words table table′ s n n-is L h sort flex rigid R =
     let z : s .used + 1 - (s .used + 1) ≡ 0 = omega arith in
-    node-more words table (set words (s .used) variableHead) table′ s L (length-set words (s .used) variableHead) (λ i l. getD-set-other words (s .used) i variableHead 0 (λ e. omega arith)) sort flex rigid (s .used + 1) R (omega arith) (omega arith) variableHead []
+    node-more words table (set words (s .used) variableHead) table′ s L (length-set words (s .used) variableHead) (λ i l. getD-set-other words (s .used) i variableHead 0 (λ e. omega arith)) sort flex rigid (s .used + 1) R (omega arith) (omega arith) n n-is variableHead []
     (getD-set-same words (s .used) variableHead 0 h) (rw z)
 
 -- the cells are as many as before
@@ -162,9 +156,9 @@ pushed-long words args copied used head end e h same =
     length-put (used + 1) (end - (used + 1)) w (omega (arith, lw)) copied (ap length same ∙ omega arith) ∙ lw
 
 -- an application takes a cell for its head and one for each argument
-pub app-pushed : (words table table′ args copied : List ℕ) (s : Counts) (head end : ℕ) → Laid words table s → end ≡ s .used + 1 + length args → end ≤ length words → copied ≡ args → Rows table table′ s nothing 0 0 end
-    → Pushes words (put (s .used + 1) (end - (s .used + 1)) copied (set words (s .used) head)) table table′ s (applied head args) (Node (s .nodes) (record { nodes = s .nodes + 1; used = end }))
-app-pushed words table table′ args copied s head end L e h same R =
+pub app-pushed : (words table table′ args copied : List ℕ) (s : Counts) (n : Node) → n .0 ≡ s .nodes → (head end : ℕ) → Laid words table s → end ≡ s .used + 1 + length args → end ≤ length words → copied ≡ args → Rows table table′ s nothing 0 0 end
+    → Pushes words (put (s .used + 1) (end - (s .used + 1)) copied (set words (s .used) head)) table table′ s (applied head args) (At n (record { nodes = s .nodes + 1; used = end }))
+app-pushed words table table′ args copied s number number-is head end L e h same R =
     let n : ℕ = end - (s .used + 1) in
     let w : List ℕ = set words (s .used) head in
     let lw : length w ≡ length words = length-set words (s .used) head in
@@ -172,6 +166,6 @@ app-pushed words table table′ args copied s head end L e h same R =
     let long : length copied ≡ n = ap length same ∙ omega arith in
     node-more words table (put (s .used + 1) n copied w) table′ s L (pushed-long words args copied (s .used) head end e h same)
     (λ i l. put-before (s .used + 1) n w room copied long i (omega arith) ∙ getD-set-other words (s .used) i head 0 (λ q. omega arith))
-    nothing 0 0 end R (omega arith) h head args
+    nothing 0 0 end R (omega arith) h number number-is head args
     (put-before (s .used + 1) n w room copied long (s .used) (omega arith) ∙ getD-set-same words (s .used) head 0 (omega arith))
     (part-put (s .used + 1) n w room copied long ∙ same)

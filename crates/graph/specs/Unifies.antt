@@ -1,19 +1,20 @@
 -- Unification: pairs are taken from the stack until none is left.
 use mathlib.Core.Path.{_≡_, refl, sym, ap, ap₂, subst, _∙_}
 use mathlib.Core.Bool.{true, false, _||_}
-use mathlib.Core.List.{List, [], _∷_}
+use mathlib.Core.List.{List, [], _∷_, _++_}
 use mathlib.Core.Option.{none, some}
 use Prim.Native.Nat.{ℕ, zero, suc, _+_, _*_, _-_, _≤_, _<_}
 use native.Mathlib.Omega.{arith}
-use native.Mathlib.Decide.{ℕ-discrete}
-use lib.ListN.{length, getD, set, length-set}
+use native.Mathlib.Decide.{ℕ-discrete, decLt}
+use lib.ListN.{length, getD, set, length-set, length-append}
 use lib.Seq.{getD-set-same, getD-set-other}
 use Rattle.definition.specs.Test.{is, see, never}
 use Rattle.definition.specs.Good.{Below}
-use Rattle.definition.specs.Graph.{Graph, Pair, on, clashed, vertex, isFree, isVar, bind, join, lastFirst, meet, root, cells, takePairs, unify}
+use Rattle.definition.specs.Laws.Grow.{below-more}
+use Rattle.definition.specs.Graph.{Vertex, Graph, Pair, on, clashed, vertex, isFree, isVar, bind, join, lastFirst, meet, root, cells, takePairs, unify}
 use Rattle.theory.specs.Unification.Solve.{SameNodes, openCells}
 use Rattle.theory.specs.Unification.Forest.{root-inside, root-self}
-use Rattle.theory.specs.Unification.Like.{own-root}
+use Rattle.theory.specs.Unification.Like.{own-root, vertex-old, vertex-new}
 use Rattle.theory.specs.Unification.Unify.{take-clashed, take-on, open-most}
 use Rattle.theory.specs.Unification.Join.{same-refl, join-joined, bind-joined}
 use Rattle.theory.specs.Unification.Pairs.{args-length}
@@ -22,10 +23,10 @@ use Rattle.graph.specs.declared.meet.Met.{Met}
 use Rattle.graph.specs.declared.meet.Met.the-variants.{On, Clash as Unlike}
 use Rattle.graph.specs.declared.unify.Outcome.{Outcome}
 use Rattle.graph.specs.declared.unify.Outcome.the-variants.{Joined, Clash}
-use Rattle.graph.specs.Cells.{startIn, linkWord, linkIn, graphIn, length-graphIn, Shows, nodes-few}
+use Rattle.graph.specs.Cells.{startIn, linkWord, linkIn, graphIn, length-graphIn, rowsEnd, Shows, SameRows, rows-then, rows-set, shows-rows, Unchanged, unchanged-same, unchanged-then, unchanged-later, unchanged-set}
 use Rattle.graph.specs.Links.{Holds, Found, link-of, found-here}
 use Rattle.graph.specs.Pushes.{cells-shown}
-use Rattle.graph.specs.Pairs.{pairsIn, length-pairsIn, arity-of}
+use Rattle.graph.specs.Pairs.{pairsEnd, pairsIn, length-pairsIn, pairs-same, PairsRoom, arity-of}
 use Rattle.graph.specs.Meets.{Rooted, Meets, meet-same, meet-left, meet-right, meet-rigid, meet-unlike, meet-alike}
 
 -- arguments are nodes
@@ -91,23 +92,30 @@ same-inner : (g h : Graph) → SameNodes g h → Inner g → Inner h
 same-inner g h S I x l = let m = S .long in rw (m, S .args x) (I x (omega arith))
 
 -- ---- the state of unifying x and y in g₀: what is left of it
-pub record Taking (words table pairs : List ℕ) (s : Counts) (top taken : ℕ) (g₀ : Graph) (x y : ℕ) : Type 0 where
+pub record Taking (words table : List ℕ) (s : Counts) (top taken : ℕ) (g₀ : Graph) (x y : ℕ) : Type 0 where
   pub graph : Graph
   pub shows : Shows words table s graph
   pub inner : Inner graph
-  pub within : Within (s .nodes) (pairsIn pairs top)
+  pub within : Within (s .nodes) (pairsIn (rowsEnd words) table top)
   pub fuel : ℕ
-  pub left : takePairs fuel graph (pairsIn pairs top) taken ≡ unify g₀ x y
+  pub left : takePairs fuel graph (pairsIn (rowsEnd words) table top) taken ≡ unify g₀ x y
   pub enough : top + openCells graph ≤ fuel
   pub most : fuel + taken ≤ suc (s .used)
 
 pub many-nodes : (words table : List ℕ) (s : Counts) (g : Graph) → Shows words table s g → length g ≡ s .nodes
 many-nodes words table s g S = sym (S .like .long) ∙ length-graphIn words table (s .nodes)
 
+-- the words of the pair behind top others
+abbrev pub leftWord : List ℕ → List ℕ → ℕ → ℕ
+leftWord words table top = getD table (rowsEnd words + 2 * top) 0
+
+abbrev pub rightWord : List ℕ → List ℕ → ℕ → ℕ
+rightWord words table top = getD table (rowsEnd words + 2 * top + 1) 0
+
 -- the first pair stands there
-pub taking-first : (words table pairs : List ℕ) (s : Counts) (g : Graph) (x y : ℕ) → Shows words table s g → Inner g → x < s .nodes → y < s .nodes → getD pairs 0 0 ≡ x → getD pairs 1 0 ≡ y → Taking words table pairs s 1 0 g x y
+pub taking-first : (words table : List ℕ) (s : Counts) (g : Graph) (x y : ℕ) → Shows words table s g → Inner g → x < s .nodes → y < s .nodes → leftWord words table 0 ≡ x → rightWord words table 0 ≡ y → Taking words table s 1 0 g x y
 unfolding pairsIn unify
-taking-first words table pairs s g x y S I lx ly a b = record {
+taking-first words table s g x y S I lx ly a b = record {
   graph = g;
   shows = S;
   inner = I;
@@ -134,180 +142,229 @@ pub root-root : (words table : List ℕ) (s : Counts) (g : Graph) → Shows word
 root-root words table s g S x l = root-self g (root g x) (S .like .forest .rooted x (omega (arith, many-nodes words table s g S)))
 
 -- the arguments of a root have room behind the pairs
-pub pairs-room : (words table pairs : List ℕ) (s : Counts) (top taken : ℕ) (g₀ : Graph) (x y : ℕ) → Taking words table pairs s (suc top) taken g₀ x y → (table′ : List ℕ) → ((g : Graph) → Shows words table s g → Shows words table′ s g) → (z : ℕ) → z < s .nodes → linkWord table′ z ≡ 0
-    → 2 * length words + 2 ≤ length pairs → 2 * top + 2 * (startIn table′ (z + 1) - (startIn table′ z + 1)) ≤ length pairs
-pairs-room words table pairs s top taken g₀ x y T table′ still z l e room =
+pub pairs-room : (words table : List ℕ) (s : Counts) (top taken : ℕ) (g₀ : Graph) (x y : ℕ) → Taking words table s (suc top) taken g₀ x y → (table′ : List ℕ) → ((g : Graph) → Shows words table s g → Shows words table′ s g) → (z : ℕ) → z < s .nodes → linkWord table′ z ≡ 0
+    → pairsEnd words ≤ length table′ → PairsRoom words table′ top z
+pairs-room words table s top taken g₀ x y T table′ still z l e room =
     let S = still (T .graph) (T .shows) in
     let n = many-nodes words table′ s (T .graph) S in
     let bare : vertex (T .graph) z .link ≡ none = own-root (T .graph) (S .like .forest) z (omega arith) (found-here words table′ s (T .graph) S z l e) in
     let j = join-joined (T .graph) z z (omega arith) bare in
     let a = arity-of words table′ s (T .graph) S z l in
-    omega (arith, j .closed, a, T .enough, T .most, S .laid .fits, room)
+    let few : 2 * top + 2 * (startIn table′ (z + 1) - (startIn table′ z + 1)) ≤ 2 * length words + 2 = omega (arith, j .closed, a, T .enough, T .most, S .laid .fits) in
+    (omega (arith, few, room), few)
 
 -- one pair more was taken
-pub taking-on : (words table pairs : List ℕ) (s : Counts) (top taken : ℕ) (g₀ : Graph) (x y : ℕ) (T : Taking words table pairs s (suc top) taken g₀ x y) (table″ pairs′ : List ℕ) (more : ℕ) (h : Graph)
-    → meet (T .graph) (root (T .graph) (getD pairs (2 * top) 0)) (root (T .graph) (getD pairs (2 * top + 1) 0)) (pairsIn pairs top) ≡ on h (pairsIn pairs′ more) → Shows words table″ s h → Taking words table″ pairs′ s more (taken + 1) g₀ x y
+pub taking-on : (words table : List ℕ) (s : Counts) (top taken : ℕ) (g₀ : Graph) (x y : ℕ) (T : Taking words table s (suc top) taken g₀ x y) (table″ : List ℕ) (more : ℕ) (h : Graph)
+    → meet (T .graph) (root (T .graph) (leftWord words table top)) (root (T .graph) (rightWord words table top)) (pairsIn (rowsEnd words) table top) ≡ on h (pairsIn (rowsEnd words) table″ more) → Shows words table″ s h → Taking words table″ s more (taken + 1) g₀ x y
 unfolding pairsIn
-taking-on words table pairs s top taken g₀ x y T table″ pairs′ more h m S = go (T .fuel) refl
+taking-on words table s top taken g₀ x y T table″ more h m S = go (T .fuel) refl
   where
-    go : (k : ℕ) → T .fuel ≡ k → Taking words table″ pairs′ s more (taken + 1) g₀ x y
+    go : (k : ℕ) → T .fuel ≡ k → Taking words table″ s more (taken + 1) g₀ x y
     go zero e = absurd (omega (arith, T .enough))
     go (suc k) e =
         let g = T .graph in
+        let l : ℕ = leftWord words table top in
+        let r : ℕ = rightWord words table top in
+        let ps : List Pair = pairsIn (rowsEnd words) table top in
+        let qs : List Pair = pairsIn (rowsEnd words) table″ more in
         let n = many-nodes words table s g (T .shows) in
-        let lx = root-inside g (T .shows .like .forest) (getD pairs (2 * top) 0) (omega (arith, T .within .0)) in
-        let ly = root-inside g (T .shows .like .forest) (getD pairs (2 * top + 1) 0) (omega (arith, T .within .1)) in
-        let rx = T .shows .like .forest .rooted (getD pairs (2 * top) 0) (omega (arith, T .within .0)) in
-        let ry = T .shows .like .forest .rooted (getD pairs (2 * top + 1) 0) (omega (arith, T .within .1)) in
-        let K = meet-keeps g (root g (getD pairs (2 * top) 0)) (root g (getD pairs (2 * top + 1) 0)) (pairsIn pairs top) lx ly rx ry h (pairsIn pairs′ more) m in
+        let lx = root-inside g (T .shows .like .forest) l (omega (arith, T .within .0)) in
+        let ly = root-inside g (T .shows .like .forest) r (omega (arith, T .within .1)) in
+        let rx = T .shows .like .forest .rooted l (omega (arith, T .within .0)) in
+        let ry = T .shows .like .forest .rooted r (omega (arith, T .within .1)) in
+        let K = meet-keeps g (root g l) (root g r) ps lx ly rx ry h qs m in
         let q : taken + 1 ≡ suc taken = omega arith in
         record {
           graph = h;
           shows = S;
           inner = same-inner g h (K .same) (T .inner);
-          within = subst (λ (i : ℕ). Within i (pairsIn pairs′ more)) n (K .within (subst (λ (i : ℕ). Within i (pairsIn pairs top)) (sym n) (T .within .2)) (T .inner));
+          within = subst (λ (i : ℕ). Within i qs) n (K .within (subst (λ (i : ℕ). Within i ps) (sym n) (T .within .2)) (T .inner));
           fuel = k;
-          left = ap (takePairs k h (pairsIn pairs′ more)) q ∙ sym (take-on k g _ (pairsIn pairs top) taken h (pairsIn pairs′ more) m) ∙ ap (λ (i : ℕ). takePairs i g (pairsIn pairs (suc top)) taken) (sym e) ∙ T .left;
-          enough = omega (arith, K .less, T .enough, e, length-pairsIn pairs top, length-pairsIn pairs′ more);
+          left = ap (takePairs k h qs) q ∙ sym (take-on k g _ ps taken h qs m) ∙ ap (λ (i : ℕ). takePairs i g (pairsIn (rowsEnd words) table (suc top)) taken) (sym e) ∙ T .left;
+          enough = omega (arith, K .less, T .enough, e, length-pairsIn (rowsEnd words) table top, length-pairsIn (rowsEnd words) table″ more);
           most = omega (arith, T .most, e);
         }
 
 -- a pair that clashes ends it
-pub taking-clash : (words table pairs : List ℕ) (s : Counts) (top taken : ℕ) (g₀ : Graph) (x y : ℕ) (T : Taking words table pairs s (suc top) taken g₀ x y)
-    → meet (T .graph) (root (T .graph) (getD pairs (2 * top) 0)) (root (T .graph) (getD pairs (2 * top + 1) 0)) (pairsIn pairs top) ≡ clashed → unify g₀ x y ≡ record { graph = none; taken = taken + 1 }
+pub taking-clash : (words table : List ℕ) (s : Counts) (top taken : ℕ) (g₀ : Graph) (x y : ℕ) (T : Taking words table s (suc top) taken g₀ x y)
+    → meet (T .graph) (root (T .graph) (leftWord words table top)) (root (T .graph) (rightWord words table top)) (pairsIn (rowsEnd words) table top) ≡ clashed → unify g₀ x y ≡ record { graph = none; taken = taken + 1 }
 unfolding pairsIn
-taking-clash words table pairs s top taken g₀ x y T m = go (T .fuel) refl
+taking-clash words table s top taken g₀ x y T m = go (T .fuel) refl
   where
     go : (k : ℕ) → T .fuel ≡ k → unify g₀ x y ≡ record { graph = none; taken = taken + 1 }
     go zero e = absurd (omega (arith, T .enough))
     go (suc k) e =
         let q : suc taken ≡ taken + 1 = omega arith in
-        sym (T .left) ∙ ap (λ (i : ℕ). takePairs i (T .graph) (pairsIn pairs (suc top)) taken) e ∙ take-clashed k (T .graph) _ (pairsIn pairs top) taken m ∙ ap (λ (i : ℕ). record { graph = none; taken = i }) q
+        sym (T .left) ∙ ap (λ (i : ℕ). takePairs i (T .graph) (pairsIn (rowsEnd words) table (suc top)) taken) e ∙ take-clashed k (T .graph) _ (pairsIn (rowsEnd words) table top) taken m ∙ ap (λ (i : ℕ). record { graph = none; taken = i }) q
 
 -- no pair is left
-pub taking-done : (words table pairs : List ℕ) (s : Counts) (taken : ℕ) (g₀ : Graph) (x y : ℕ) (T : Taking words table pairs s 0 taken g₀ x y) → unify g₀ x y ≡ record { graph = some (T .graph); taken = taken }
+pub taking-done : (words table : List ℕ) (s : Counts) (taken : ℕ) (g₀ : Graph) (x y : ℕ) (T : Taking words table s 0 taken g₀ x y) → unify g₀ x y ≡ record { graph = some (T .graph); taken = taken }
 unfolding pairsIn
-taking-done words table pairs s taken g₀ x y T = sym (T .left) ∙ none-left (T .fuel) (T .graph) taken
+taking-done words table s taken g₀ x y T = sym (T .left) ∙ none-left (T .fuel) (T .graph) taken
   where
     none-left : (k : ℕ) (g : Graph) (n : ℕ) → takePairs k g [] n ≡ record { graph = some g; taken = n }
     none-left zero g n = unfold takePairs in refl
     none-left (suc k) g n = unfold takePairs in refl
 
--- what unifying answers, of whatever inner graph is held
+-- what unifying answers, of whatever inner graph is held; beyond the pairs nothing changes
 abbrev pub Unifies : List ℕ → List ℕ → List ℕ → Counts → ℕ → ℕ → Outcome → Type 0
-Unifies words table table′ s x y (Joined n) = (g : Graph) → Shows words table s g → Inner g → (h : Graph) × (unify g x y ≡ record { graph = some h; taken = n }) × Shows words table′ s h × Inner h
-Unifies words table table′ s x y (Clash n) = (g : Graph) → Shows words table s g → Inner g → unify g x y ≡ record { graph = none; taken = n }
+Unifies words table table′ s x y (Joined n) = ((g : Graph) → Shows words table s g → Inner g → (h : Graph) × (unify g x y ≡ record { graph = some h; taken = n }) × Shows words table′ s h × Inner h) × Unchanged (pairsEnd words) table table′
+Unifies words table table′ s x y (Clash n) = ((g : Graph) → Shows words table s g → Inner g → unify g x y ≡ record { graph = none; taken = n }) × Unchanged (pairsEnd words) table table′
 
 -- ---- one turn: the roots of the pair behind the others meet
-abbrev pub Ready : List ℕ → List ℕ → List ℕ → Counts → ℕ → Type 0
-Ready words table pairs s top = (g₀ : Graph) × (x y taken : ℕ) × Taking words table pairs s (suc top) taken g₀ x y
+abbrev pub Ready : List ℕ → List ℕ → Counts → ℕ → Type 0
+Ready words table s top = (g₀ : Graph) × (x y taken : ℕ) × Taking words table s (suc top) taken g₀ x y
 
-abbrev pub Takes : List ℕ → List ℕ → List ℕ → List ℕ → List ℕ → Counts → ℕ → Met → Type 0
-Takes words table table′ pairs pairs′ s top (On more) =
-    (g : Graph) → Shows words table s g → (h : Graph) × (meet g (root g (getD pairs (2 * top) 0)) (root g (getD pairs (2 * top + 1) 0)) (pairsIn pairs top) ≡ on h (pairsIn pairs′ more)) × Shows words table′ s h
-Takes words table table′ pairs pairs′ s top Unlike = (g : Graph) → Shows words table s g → meet g (root g (getD pairs (2 * top) 0)) (root g (getD pairs (2 * top + 1) 0)) (pairsIn pairs top) ≡ clashed
+abbrev pub Takes : List ℕ → List ℕ → List ℕ → Counts → ℕ → Met → Type 0
+Takes words table table′ s top (On more) =
+    ((g : Graph) → Shows words table s g → (h : Graph) × (meet g (root g (leftWord words table top)) (root g (rightWord words table top)) (pairsIn (rowsEnd words) table top) ≡ on h (pairsIn (rowsEnd words) table′ more)) × Shows words table′ s h)
+    × Unchanged (pairsEnd words) table table′
+Takes words table table′ s top Unlike = ((g : Graph) → Shows words table s g → meet g (root g (leftWord words table top)) (root g (rightWord words table top)) (pairsIn (rowsEnd words) table top) ≡ clashed) × Unchanged (pairsEnd words) table table′
 
 -- the pair stands there, and its nodes are nodes
-module _ (words table pairs : List ℕ) (s : Counts) (top : ℕ) (R : Ready words table pairs s top) where
-  pub pair-left : getD pairs (2 * top) 0 < s .nodes
+module _ (words table : List ℕ) (s : Counts) (top : ℕ) (R : Ready words table s top) where
+  pub pair-left : leftWord words table top < s .nodes
   unfolding pairsIn
   pair-left = R .4 .within .0
 
-  pub pair-right : getD pairs (2 * top + 1) 0 < s .nodes
+  pub pair-right : rightWord words table top < s .nodes
   unfolding pairsIn
   pair-right = R .4 .within .1
 
-  pub pair-room : 2 * length words + 2 ≤ length pairs → 2 * top + 2 ≤ length pairs
-  pair-room h = omega (arith, h, R .4 .enough, R .4 .most, R .4 .shows .laid .fits)
+  pub pair-room : 2 * top + 2 ≤ 2 * length words + 2
+  pair-room = omega (arith, R .4 .enough, R .4 .most, R .4 .shows .laid .fits)
 
-  pub nodes-small : s .nodes < 4294967296
-  nodes-small = omega (arith, nodes-few words table s (R .4 .shows .laid), R .4 .shows .laid .fits, R .4 .shows .laid .small)
+  pub cells-small : length words < 4294967295
+  cells-small = R .4 .shows .laid .small
 
-module _ (words table mid table′ pairs : List ℕ) (s : Counts) (top l r : ℕ) (F : Found words table mid s (getD pairs (2 * top) 0) l) (E : Found words mid table′ s (getD pairs (2 * top + 1) 0) r) where
-  -- what was held is held still
+module _ (words table mid table′ : List ℕ) (s : Counts) (top l r : ℕ) (F : Found words table mid s (leftWord words table top) l) (E : Found words mid table′ s (rightWord words table top) r) where
+  -- what was held is held still, and the pairs stand there still
   still : (g : Graph) → Shows words table s g → Shows words table′ s g
   still g S = E .2 g (F .2 g S .1) .1
 
-  pub both-held : Ready words table pairs s top → Holds words table′ s
+  untouched : Unchanged (rowsEnd words) table table′
+  untouched = unchanged-then (rowsEnd words) table mid table′ (F .3) (E .3)
+
+  pub both-held : Ready words table s top → Holds words table′ s
   both-held R = (R .4 .graph, still (R .4 .graph) (R .4 .shows))
 
   -- both are roots
-  pub left-root : Ready words table pairs s top → Rooted table′ s l
+  pub left-root : Ready words table s top → Rooted table′ s l
   left-root R =
       let g = R .4 .graph in
       let f = F .2 g (R .4 .shows) in
-      let e : root g l ≡ l = ap (root g) (f .0) ∙ root-root words table s g (R .4 .shows) (getD pairs (2 * top) 0) (pair-left words table pairs s top R) ∙ sym (f .0) in
+      let e : root g l ≡ l = ap (root g) (f .0) ∙ root-root words table s g (R .4 .shows) (leftWord words table top) (pair-left words table s top R) ∙ sym (f .0) in
       (F .0, root-word words table′ s g (still g (R .4 .shows)) l (F .0) e)
 
   pub right-root : Rooted table′ s r
   right-root = (E .0, E .1)
 
-  pub turn-room : Ready words table pairs s top → 2 * length words + 2 ≤ length pairs → 2 * top + 2 * (startIn table′ (l + 1) - (startIn table′ l + 1)) ≤ length pairs
-  turn-room R room = pairs-room words table pairs s top (R .3) (R .0) (R .1) (R .2) (R .4) table′ still l (F .0) (left-root R .1) room
+  pub turn-room : Ready words table s top → pairsEnd words ≤ length table → PairsRoom words table′ top l
+  turn-room R room = pairs-room words table s top (R .3) (R .0) (R .1) (R .2) (R .4) table′ still l (F .0) (left-root R .1) (omega (arith, room, untouched .long))
 
   -- what their meeting says of the pair
-  roots-meet : (g : Graph) → Shows words table s g → meet g (root g (getD pairs (2 * top) 0)) (root g (getD pairs (2 * top + 1) 0)) (pairsIn pairs top) ≡ meet g l r (pairsIn pairs top)
+  roots-meet : (g : Graph) → Shows words table s g → meet g (root g (leftWord words table top)) (root g (rightWord words table top)) (pairsIn (rowsEnd words) table top) ≡ meet g l r (pairsIn (rowsEnd words) table′ top)
   roots-meet g S =
       let f = F .2 g S in
-      ap₂ (λ (a b : ℕ). meet g a b (pairsIn pairs top)) (sym (f .0)) (sym (E .2 g (f .1) .0))
+      ap₂ (λ (a b : ℕ). meet g a b (pairsIn (rowsEnd words) table top)) (sym (f .0)) (sym (E .2 g (f .1) .0))
+      ∙ ap (meet g l r) (sym (pairs-same (rowsEnd words) table table′ untouched top))
 
-  turn-on : (table″ pairs′ : List ℕ) (more : ℕ) → Meets words table′ table″ pairs pairs′ s top l r (On more) → Takes words table table″ pairs pairs′ s top (On more)
-  turn-on table″ pairs′ more M g S = let m = M g (still g S) in (m .0, roots-meet g S ∙ m .1, m .2)
+  beyond : (table″ : List ℕ) → Unchanged (pairsEnd words) table′ table″ → Unchanged (pairsEnd words) table table″
+  beyond table″ U = unchanged-then (pairsEnd words) table table′ table″ (unchanged-later (rowsEnd words) (pairsEnd words) table table′ (omega arith) untouched) U
 
-  turn-unlike : (table″ pairs′ : List ℕ) → Meets words table′ table″ pairs pairs′ s top l r Unlike → Takes words table table″ pairs pairs′ s top Unlike
-  turn-unlike table″ pairs′ M g S = roots-meet g S ∙ M g (still g S)
+  turn-on : (table″ : List ℕ) (more : ℕ) → Meets words table′ table″ s top l r (On more) → Takes words table table″ s top (On more)
+  turn-on table″ more M = (λ g S. let m = M .0 g (still g S) in (m .0, roots-meet g S ∙ m .1, m .2), beyond table″ (M .1))
 
-  pub turn-says : (table″ pairs′ : List ℕ) (m : Met) → Meets words table′ table″ pairs pairs′ s top l r m → Takes words table table″ pairs pairs′ s top m
-  turn-says table″ pairs′ (On more) M = turn-on table″ pairs′ more M
-  turn-says table″ pairs′ Unlike M = turn-unlike table″ pairs′ M
+  turn-unlike : (table″ : List ℕ) → Meets words table′ table″ s top l r Unlike → Takes words table table″ s top Unlike
+  turn-unlike table″ M = (λ g S. roots-meet g S ∙ M .0 g (still g S), beyond table″ (M .1))
+
+  pub turn-says : (table″ : List ℕ) (m : Met) → Meets words table′ table″ s top l r m → Takes words table table″ s top m
+  turn-says table″ (On more) M = turn-on table″ more M
+  turn-says table″ Unlike M = turn-unlike table″ M
 
 -- ---- the turns together
-pub record Going (words before table pairs : List ℕ) (s : Counts) (top taken x y : ℕ) : Type 0 where
-  pub room : 2 * length words + 2 ≤ length pairs
-  pub state : (g : Graph) → Shows words before s g → Inner g → Taking words table pairs s top taken g x y
+pub record Going (words before table : List ℕ) (s : Counts) (top taken x y : ℕ) : Type 0 where
+  pub state : (g : Graph) → Shows words before s g → Inner g → Taking words table s top taken g x y
+  pub beyond : Unchanged (pairsEnd words) before table
 
 -- the last of some pairs
-pub going-at : (words before table pairs : List ℕ) (s : Counts) (top taken x y : ℕ) → 0 < top → Going words before table pairs s top taken x y → Going words before table pairs s (suc (top - 1)) taken x y
-going-at words before table pairs s top taken x y h G = let e : top ≡ suc (top - 1) = omega arith in subst (λ (k : ℕ). Going words before table pairs s k taken x y) e G
+pub going-at : (words before table : List ℕ) (s : Counts) (top taken x y : ℕ) → 0 < top → Going words before table s top taken x y → Going words before table s (suc (top - 1)) taken x y
+going-at words before table s top taken x y h G = let e : top ≡ suc (top - 1) = omega arith in subst (λ (k : ℕ). Going words before table s k taken x y) e G
 
 abbrev pub HoldsInner : List ℕ → List ℕ → Counts → Type 0
 HoldsInner words table s = (g : Graph) × Shows words table s g × Inner g
 
-module _ (words before table pairs : List ℕ) (s : Counts) (top taken x y : ℕ) (G : Going words before table pairs s (suc top) taken x y) (H : HoldsInner words before s) where
-  pub going-ready : Ready words table pairs s top
+module _ (words before table : List ℕ) (s : Counts) (top taken x y : ℕ) (G : Going words before table s (suc top) taken x y) (H : HoldsInner words before s) where
+  pub going-ready : Ready words table s top
   going-ready = (H .0, x, y, taken, G .state (H .0) (H .1) (H .2))
 
   -- fewer pairs were taken than there are cells and one
   pub going-few : taken ≤ s .used
   going-few = let T = G .state (H .0) (H .1) (H .2) in omega (arith, T .enough, T .most)
 
-  pub going-on : (table′ pairs′ : List ℕ) (more : ℕ) → length pairs′ ≡ length pairs → Takes words table table′ pairs pairs′ s top (On more) → Going words before table′ pairs′ s more (taken + 1) x y
-  going-on table′ pairs′ more long M = record {
-    room = omega (arith, G .room, long);
+  pub going-on : (table′ : List ℕ) (more : ℕ) → Takes words table table′ s top (On more) → Going words before table′ s more (taken + 1) x y
+  going-on table′ more M = record {
     state = λ g S I.
         let T = G .state g S I in
-        let m = M (T .graph) (T .shows) in
-        taking-on words table pairs s top taken g x y T table′ pairs′ more (m .0) (m .1) (m .2);
+        let m = M .0 (T .graph) (T .shows) in
+        taking-on words table s top taken g x y T table′ more (m .0) (m .1) (m .2);
+    beyond = unchanged-then (pairsEnd words) before table table′ (G .beyond) (M .1);
   }
 
-  pub going-clash : (table′ table″ pairs′ : List ℕ) → Takes words table table′ pairs pairs′ s top Unlike → Unifies words before table″ s x y (Clash (taken + 1))
-  going-clash table′ table″ pairs′ M g S I = let T = G .state g S I in taking-clash words table pairs s top taken g x y T (M (T .graph) (T .shows))
+  pub going-clash : (table′ : List ℕ) → Takes words table table′ s top Unlike → Unifies words before table′ s x y (Clash (taken + 1))
+  going-clash table′ M = (λ g S I. let T = G .state g S I in taking-clash words table s top taken g x y T (M .0 (T .graph) (T .shows)), unchanged-then (pairsEnd words) before table table′ (G .beyond) (M .1))
 
-pub going-done : (words before table pairs : List ℕ) (s : Counts) (taken x y : ℕ) → Going words before table pairs s 0 taken x y → Unifies words before table s x y (Joined taken)
-going-done words before table pairs s taken x y G g S I = let T = G .state g S I in (T .graph, taking-done words table pairs s taken g x y T, T .shows, T .inner)
+pub going-done : (words before table : List ℕ) (s : Counts) (taken x y : ℕ) → Going words before table s 0 taken x y → Unifies words before table s x y (Joined taken)
+going-done words before table s taken x y G = (λ g S I. let T = G .state g S I in (T .graph, taking-done words table s taken g x y T, T .shows, T .inner), G .beyond)
 
--- the first pair written, the stack is as long as before
-pub first-long : (pairs : List ℕ) (x y : ℕ) → length (set (set pairs 0 x) 1 y) ≡ length pairs
-first-long pairs x y = length-set (set pairs 0 x) 1 y ∙ length-set pairs 0 x
+-- ---- the first pair is written
+pub first-long : (table : List ℕ) (i x j y : ℕ) → length (set (set table i x) j y) ≡ length table
+first-long table i x j y = length-set (set table i x) j y ∙ length-set table i x
 
--- the first pair was written
-pub going-first : (words table pairs : List ℕ) (s : Counts) (x y : ℕ) → x < s .nodes → y < s .nodes → 2 * length words + 2 ≤ length pairs → Going words table table (set (set pairs 0 x) 1 y) s 1 0 x y
-going-first words table pairs s x y lx ly room =
-    let l = first-long pairs x y in
-    record {
-      room = omega (arith, l);
-      state = λ g S I.
-          taking-first words table (set (set pairs 0 x) 1 y) s g x y S I lx ly
-          (getD-set-other (set pairs 0 x) 1 0 y 0 (λ e. omega arith) ∙ getD-set-same pairs 0 x 0 (omega (arith, room)))
-          (getD-set-same (set pairs 0 x) 1 y 0 (omega (arith, room, length-set pairs 0 x)));
-    }
+module _ (words table : List ℕ) (s : Counts) (x y : ℕ) (room : pairsEnd words ≤ length table) where
+  abbrev at : ℕ
+  at = rowsEnd words
+
+  abbrev pub firstPair : List ℕ
+  firstPair = set (set table at x) (at + 1) y
+
+  first-rows : SameRows words table firstPair
+  first-rows = rows-then words table (set table at x) firstPair (rows-set words table at x (omega arith)) (rows-set words (set table at x) (at + 1) y (omega arith))
+
+  -- what was held is held still
+  pub first-held : HoldsInner words table s → HoldsInner words firstPair s
+  first-held H = (H .0, shows-rows words table firstPair s (H .0) first-rows (H .1), H .2)
+
+  pub going-first : x < s .nodes → y < s .nodes → Going words firstPair firstPair s 1 0 x y
+  going-first lx ly =
+      let left : at + 2 * 0 ≡ at = omega arith in
+      let right : at + 2 * 0 + 1 ≡ at + 1 = omega arith in
+      record {
+        state = λ g S I.
+            taking-first words firstPair s g x y S I lx ly
+            (ap (λ (i : ℕ). getD firstPair i 0) left ∙ getD-set-other (set table at x) (at + 1) at y 0 (λ e. omega arith) ∙ getD-set-same table at x 0 (omega (arith, room)))
+            (ap (λ (i : ℕ). getD firstPair i 0) right ∙ getD-set-same (set table at x) (at + 1) y 0 (omega (arith, room, length-set table at x)));
+        beyond = unchanged-same (pairsEnd words) firstPair;
+      }
+
+  first-beyond : (table′ : List ℕ) → Unchanged (pairsEnd words) firstPair table′ → Unchanged (pairsEnd words) table table′
+  first-beyond table′ U = unchanged-then (pairsEnd words) table firstPair table′
+      (unchanged-then (pairsEnd words) table (set table at x) firstPair (unchanged-set (pairsEnd words) table at x (omega arith)) (unchanged-set (pairsEnd words) (set table at x) (at + 1) y (omega arith))) U
+
+  -- what is said from there on is said of the whole
+  pub joined-first : (table′ : List ℕ) (n : ℕ) → Unifies words firstPair table′ s x y (Joined n) → Unifies words table table′ s x y (Joined n)
+  joined-first table′ n U = (λ g S I. U .0 g (shows-rows words table firstPair s g first-rows S) I, first-beyond table′ (U .1))
+
+  pub clash-first : (table′ : List ℕ) (n : ℕ) → Unifies words firstPair table′ s x y (Clash n) → Unifies words table table′ s x y (Clash n)
+  clash-first table′ n U = (λ g S I. U .0 g (shows-rows words table firstPair s g first-rows S) I, first-beyond table′ (U .1))
+
+-- ---- a node more over nodes
+pub inner-more : (g : Graph) (v : Vertex) → v .link ≡ none → Inner g → Below (length g) (v .args) → Inner (g ++ (v ∷ []))
+inner-more g v bare I b x l =
+    let long : length (g ++ (v ∷ [])) ≡ suc (length g) = length-append g (v ∷ []) ∙ omega arith in
+    elim (decLt x (length g)) [
+      | yes h ↦ rw (vertex-old g v bare x h) (below-more (length g) (length (g ++ (v ∷ []))) (vertex g x .args) (omega arith) (I x h))
+      | no h ↦
+          let e : x ≡ length g = omega (arith, h) in
+          rw (e, vertex-new g v bare) (below-more (length g) (length (g ++ (v ∷ []))) (v .args) (omega arith) b)
+    ]

@@ -1,13 +1,14 @@
 // A graph's nodes: head and arguments of each in the graph's cells, a row of five words each in a table.
 use base::copy::copy_words;
 use base::id::Ground;
+use base::id::Node;
 use base::id::Pattern;
 ghost use mathlib.Core.Path.{_≡_};
 ghost use mathlib.Core.List.{[]};
 ghost use Prim.Native.Nat.{_+_, _*_, _≤_, _<_};
 ghost use lib.ListN.{length};
 ghost use Rattle.definition.specs.Graph.{variableVertex, applied};
-ghost use Rattle.graph.specs.Cells.{linkWord, markIn, Laid, Shows};
+ghost use Rattle.graph.specs.Cells.{linkWord, markIn, rowsEnd, Laid, Shows, Unchanged};
 ghost use Rattle.graph.specs.Links.{Holds, Found};
 ghost use Rattle.graph.specs.Joins.{Apart, Joins, Shares, Binds, HeadOf};
 ghost use Rattle.graph.specs.Pushes.{Rows, Pushes};
@@ -20,7 +21,7 @@ pub struct Graph {
 
 // A node more: its number and the graph with it, or that there is no room for it.
 pub enum Pushed {
-    Node(usize, Graph),
+    At(Node, Graph),
     Short,
 }
 
@@ -34,70 +35,74 @@ impl Graph {
     }
 
     // The root of node `x`. On the way there each second node is linked to the one behind its next, which changes no root.
-    pub fn find(self, cells: &[u32], table: &mut [u32], x: usize) -> usize
-        requires { ⌜ Holds (now cells) (now table) self × (x < self .nodes) ⌝ }
-        ensures { λ r. ⌜ Found (now (cells .entry)) (now (table .entry)) (now (table .exit)) self x r ⌝ }
+    pub fn find(self, cells: &[u32], table: &mut [u32], x: Node) -> Node
+        requires { ⌜ Holds (now cells) (now table) self × (x .0 < self .nodes) ⌝ }
+        ensures { λ r. ⌜ Found (now (cells .entry)) (now (table .entry)) (now (table .exit)) self (x .0) (r .0) ⌝ }
     {
-        let mut at = x;
+        let mut at = x.0;
         loop {
-            let up = self.link(cells, table, at);
+            let up = self.link(cells, table, at as usize);
             if up == 0 {
-                return at;
+                return Node(at);
             }
-            let y = (up - 1) as usize;
-            let upper = self.link(cells, table, y);
+            let y = up - 1;
+            let upper = self.link(cells, table, y as usize);
             if upper == 0 {
-                return y;
+                return Node(y);
             }
-            table[5 * at + 1] = upper;
-            at = (upper - 1) as usize;
+            table[5 * at as usize + 1] = upper;
+            at = upper - 1;
         }
     }
 
     // The head of node `x`.
-    pub fn head(self, cells: &[u32], table: &[u32], x: usize) -> u32
-        requires { ⌜ Laid (now cells) (now table) self × (x < self .nodes) ⌝ }
-        ensures { λ r. ⌜ HeadOf (now (cells .entry)) (now (table .entry)) self x r ⌝ }
+    pub fn head(self, cells: &[u32], table: &[u32], x: Node) -> u32
+        requires { ⌜ Laid (now cells) (now table) self × (x .0 < self .nodes) ⌝ }
+        ensures { λ r. ⌜ HeadOf (now (cells .entry)) (now (table .entry)) self (x .0) r ⌝ }
     {
-        let start = table[5 * x] as usize;
+        let i = x.0 as usize;
+        let start = table[5 * i] as usize;
         cells[start]
     }
 
     // Root `x` is linked to root `y`.
-    pub fn join(self, cells: &[u32], table: &mut [u32], x: usize, y: usize)
-        requires { ⌜ Laid (now cells) (now table) self × Apart (now table) self x y ⌝ }
-        ensures { λ _. ⌜ Joins (now (cells .entry)) (now (table .entry)) (now (table .exit)) self x y ⌝ }
+    pub fn join(self, cells: &[u32], table: &mut [u32], x: Node, y: Node)
+        requires { ⌜ Laid (now cells) (now table) self × Apart (now table) self (x .0) (y .0) ⌝ }
+        ensures { λ _. ⌜ Joins (now (cells .entry)) (now (table .entry)) (now (table .exit)) self (x .0) (y .0) ⌝ }
     {
-        table[5 * x + 1] = y as u32 + 1;
+        let i = x.0 as usize;
+        table[5 * i + 1] = y.0 + 1;
     }
 
     // Variable `y` becomes flexible if `x` is.
-    fn share_flex(self, cells: &[u32], table: &mut [u32], x: usize, y: usize)
-        requires { ⌜ Laid (now cells) (now table) self × Apart (now table) self x y ⌝ }
-        ensures { λ _. ⌜ Shares (now (cells .entry)) (now (table .entry)) (now (table .exit)) self x y ⌝ }
+    fn share_flex(self, cells: &[u32], table: &mut [u32], x: Node, y: Node)
+        requires { ⌜ Laid (now cells) (now table) self × Apart (now table) self (x .0) (y .0) ⌝ }
+        ensures { λ _. ⌜ Shares (now (cells .entry)) (now (table .entry)) (now (table .exit)) self (x .0) (y .0) ⌝ }
     {
         if self.head(cells, table, y) != Pattern::VAR {
             return;
         }
-        if table[5 * x + 3] == 0 {
+        let i = x.0 as usize;
+        if table[5 * i + 3] == 0 {
             return;
         }
-        table[5 * y + 3] = 1;
+        let j = y.0 as usize;
+        table[5 * j + 3] = 1;
     }
 
     // Root `x`, a variable, is bound to root `y`.
-    pub fn bind(self, cells: &[u32], table: &mut [u32], x: usize, y: usize)
-        requires { ⌜ Laid (now cells) (now table) self × Apart (now table) self x y ⌝ }
-        ensures { λ _. ⌜ Binds (now (cells .entry)) (now (table .entry)) (now (table .exit)) self x y ⌝ }
+    pub fn bind(self, cells: &[u32], table: &mut [u32], x: Node, y: Node)
+        requires { ⌜ Laid (now cells) (now table) self × Apart (now table) self (x .0) (y .0) ⌝ }
+        ensures { λ _. ⌜ Binds (now (cells .entry)) (now (table .entry)) (now (table .exit)) self (x .0) (y .0) ⌝ }
     {
         self.share_flex(cells, table, x, y);
         self.join(cells, table, x, y);
     }
 
-    // No node.
+    // No node: a graph is cleared by a new one, since every cell and row is written before it is read.
     pub fn new(cells: &[u32], table: &mut [u32]) -> Graph
-        requires { ⌜ (5 * length (now cells) + 5 ≤ length (now table)) × (length (now cells) < 4294967295) ⌝ }
-        ensures { λ r. ⌜ Shows (now (cells .entry)) (now (table .exit)) r [] ⌝ }
+        requires { ⌜ (rowsEnd (now cells) ≤ length (now table)) × (length (now cells) < 4294967295) ⌝ }
+        ensures { λ r. ⌜ Shows (now (cells .entry)) (now (table .exit)) r [] × Unchanged (rowsEnd (now (cells .entry))) (now (table .entry)) (now (table .exit)) ⌝ }
     {
         table[0] = 0;
         Graph { nodes: 0, used: 0 }
@@ -136,8 +141,8 @@ impl Graph {
         let end = at + 1;
         self.put_row(cells, table, sort, flex, rigid, end);
         let n = self.nodes;
-        Pushed::Node(
-            n,
+        Pushed::At(
+            Node(n as u32),
             Graph {
                 nodes: n + 1,
                 used: end,
@@ -159,8 +164,8 @@ impl Graph {
         copy_words(args, &mut cells[at + 1..end]);
         self.put_row(cells, table, Ground::NONE, 0, 0, end);
         let n = self.nodes;
-        Pushed::Node(
-            n,
+        Pushed::At(
+            Node(n as u32),
             Graph {
                 nodes: n + 1,
                 used: end,

@@ -1,11 +1,10 @@
 // Two roots meet.
 use crate::graph::Graph;
 use crate::pairs::push_pairs;
+use base::id::Node;
 use base::id::Pattern;
-ghost use Prim.Native.Nat.{_+_, _*_, _-_, _≤_};
-ghost use lib.ListN.{length};
-ghost use Rattle.graph.specs.Cells.{startIn};
 ghost use Rattle.graph.specs.Links.{Holds};
+ghost use Rattle.graph.specs.Pairs.{PairsRoom};
 ghost use Rattle.graph.specs.Meets.{Rooted, Meets};
 
 // So many pairs are left to be taken, or the two clash.
@@ -15,19 +14,11 @@ pub enum Met {
 }
 
 // Nodes `x` and `y`, which have no link, are made equal, as far as that can be said of them alone.
-pub fn meet(
-    g: Graph,
-    cells: &[u32],
-    table: &mut [u32],
-    pairs: &mut [u32],
-    top: usize,
-    x: usize,
-    y: usize,
-) -> Met
-    requires { ⌜ Holds (now cells) (now table) g × Rooted (now table) g x × Rooted (now table) g y × (2 * top + 2 * (startIn (now table) (x + 1) - (startIn (now table) x + 1)) ≤ length (now pairs)) ⌝ }
-    ensures { λ r. ⌜ Meets (now (cells .entry)) (now (table .entry)) (now (table .exit)) (now (pairs .entry)) (now (pairs .exit)) g top x y r ⌝ }
+pub fn meet(g: Graph, cells: &[u32], table: &mut [u32], top: usize, x: Node, y: Node) -> Met
+    requires { ⌜ Holds (now cells) (now table) g × Rooted (now table) g (x .0) × Rooted (now table) g (y .0) × PairsRoom (now cells) (now table) top (x .0) ⌝ }
+    ensures { λ r. ⌜ Meets (now (cells .entry)) (now (table .entry)) (now (table .exit)) g top (x .0) (y .0) r ⌝ }
 {
-    if x == y {
+    if x.0 == y.0 {
         return Met::On(top);
     }
     if g.is_free(cells, table, x) {
@@ -45,7 +36,7 @@ pub fn meet(
     if g.head(cells, table, y) != head {
         return Met::Clash;
     }
-    let left = push_pairs(g, cells, table, pairs, top, x, y);
+    let left = push_pairs(g, cells, table, top, x, y);
     g.join(cells, table, x, y);
     Met::On(left)
 }

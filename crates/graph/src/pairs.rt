@@ -1,42 +1,45 @@
 // What unification asks of nodes, and the pairs that it still has to take.
 use crate::graph::Graph;
+use base::id::Node;
 use base::id::Pattern;
 ghost use mathlib.Core.Path.{_≡_};
-ghost use Prim.Native.Nat.{_+_, _*_, _-_, _<_, _≤_, min};
-ghost use lib.ListN.{length};
+ghost use Prim.Native.Nat.{_+_, _<_, min};
 ghost use Rattle.graph.specs.Cells.{startIn, Laid};
 ghost use Rattle.graph.specs.Links.{Holds};
-ghost use Rattle.graph.specs.Pairs.{ArityOf, ArgumentOf, FreeOf, PairsOn};
+ghost use Rattle.graph.specs.Pairs.{ArityOf, ArgumentOf, FreeOf, PairsRoom, PairsOn};
 
 impl Graph {
     // How many arguments node `x` has.
-    pub fn arity(self, cells: &[u32], table: &[u32], x: usize) -> usize
-        requires { ⌜ Laid (now cells) (now table) self × (x < self .nodes) ⌝ }
-        ensures { λ r. ⌜ ArityOf (now (cells .entry)) (now (table .entry)) self x r ⌝ }
+    pub fn arity(self, cells: &[u32], table: &[u32], x: Node) -> usize
+        requires { ⌜ Laid (now cells) (now table) self × (x .0 < self .nodes) ⌝ }
+        ensures { λ r. ⌜ ArityOf (now (cells .entry)) (now (table .entry)) self (x .0) r ⌝ }
     {
-        let start = table[5 * x] as usize;
-        let end = table[5 * x + 5] as usize;
+        let i = x.0 as usize;
+        let start = table[5 * i] as usize;
+        let end = table[5 * i + 5] as usize;
         end - (start + 1)
     }
 
     // Its argument `i`.
-    pub fn argument(self, cells: &[u32], table: &[u32], x: usize, i: usize) -> u32
-        requires { ⌜ Laid (now cells) (now table) self × (x < self .nodes) × (startIn (now table) x + 1 + i < startIn (now table) (x + 1)) ⌝ }
-        ensures { λ r. ⌜ ArgumentOf (now (cells .entry)) (now (table .entry)) self x i r ⌝ }
+    pub fn argument(self, cells: &[u32], table: &[u32], x: Node, i: usize) -> Node
+        requires { ⌜ Laid (now cells) (now table) self × (x .0 < self .nodes) × (startIn (now table) (x .0) + 1 + i < startIn (now table) (x .0 + 1)) ⌝ }
+        ensures { λ r. ⌜ ArgumentOf (now (cells .entry)) (now (table .entry)) self (x .0) i (r .0) ⌝ }
     {
-        let start = table[5 * x] as usize;
-        cells[start + 1 + i]
+        let j = x.0 as usize;
+        let start = table[5 * j] as usize;
+        Node(cells[start + 1 + i])
     }
 
     // Whether it is a variable that may be bound.
-    pub fn is_free(self, cells: &[u32], table: &[u32], x: usize) -> bool
-        requires { ⌜ Laid (now cells) (now table) self × (x < self .nodes) ⌝ }
-        ensures { λ r. ⌜ FreeOf (now (cells .entry)) (now (table .entry)) self x r ⌝ }
+    pub fn is_free(self, cells: &[u32], table: &[u32], x: Node) -> bool
+        requires { ⌜ Laid (now cells) (now table) self × (x .0 < self .nodes) ⌝ }
+        ensures { λ r. ⌜ FreeOf (now (cells .entry)) (now (table .entry)) self (x .0) r ⌝ }
     {
         if self.head(cells, table, x) != Pattern::VAR {
             return false;
         }
-        table[5 * x + 4] == 0
+        let i = x.0 as usize;
+        table[5 * i + 4] == 0
     }
 }
 
@@ -50,27 +53,22 @@ fn least(a: usize, b: usize) -> usize
     b
 }
 
-// The arguments of nodes `x` and `y` side by side are put on the stack, the last ones on top; behind them there are so many pairs.
-pub fn push_pairs(
-    g: Graph,
-    cells: &[u32],
-    table: &[u32],
-    pairs: &mut [u32],
-    top: usize,
-    x: usize,
-    y: usize,
-) -> usize
-    requires { ⌜ Holds (now cells) (now table) g × (x < g .nodes) × (y < g .nodes) × (2 * top + 2 * (startIn (now table) (x + 1) - (startIn (now table) x + 1)) ≤ length (now pairs)) ⌝ }
-    ensures { λ r. ⌜ PairsOn (now (cells .entry)) (now (table .entry)) (now (pairs .entry)) (now (pairs .exit)) g top x y r ⌝ }
+// The arguments of nodes `x` and `y` side by side are put on the stack behind the rows, the last ones on top; behind them there are so many pairs.
+pub fn push_pairs(g: Graph, cells: &[u32], table: &mut [u32], top: usize, x: Node, y: Node) -> usize
+    requires { ⌜ Holds (now cells) (now table) g × (x .0 < g .nodes) × (y .0 < g .nodes) × PairsRoom (now cells) (now table) top (x .0) ⌝ }
+    ensures { λ r. ⌜ PairsOn (now (cells .entry)) (now (table .entry)) (now (table .exit)) g top (x .0) (y .0) r ⌝ }
 {
     let a = g.arity(cells, table, x);
     let b = g.arity(cells, table, y);
     let n = least(a, b);
+    let rows = 5 * cells.len() + 5;
     let mut i: usize = 0;
     while i < n {
-        let at = 2 * (top + i);
-        pairs[at] = g.argument(cells, table, x, i);
-        pairs[at + 1] = g.argument(cells, table, y, i);
+        let at = rows + 2 * (top + i);
+        let left = g.argument(cells, table, x, i);
+        let right = g.argument(cells, table, y, i);
+        table[at] = left.0;
+        table[at + 1] = right.0;
         i += 1;
     }
     top + n

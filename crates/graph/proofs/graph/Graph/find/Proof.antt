@@ -11,10 +11,10 @@ use Rattle.graph.proofs.graph.Graph.find.Statement.{statement}
 use Rattle.graph.proofs.graph.Graph.find.Tie as tie
 
 abbrev Inv-loop : tie.InvT-loop
-Inv-loop self cells table₀ x at₀ table at = (length table ≡ length table₀) × Seeking cells table₀ table self x at
+Inv-loop self cells table₀ at₀ table at = (length table ≡ length table₀) × Seeking cells table₀ table self at₀ at
 
 abbrev μ-loop : tie.MeasureT-loop
-μ-loop self cells table₀ x at₀ table at = depth (self .nodes) (graphIn cells table (self .nodes)) at
+μ-loop self cells table₀ at₀ table at = depth (self .nodes) (graphIn cells table (self .nodes)) at
 
 loop-holds : tie.Need-loop-holds Inv-loop μ-loop
 loop-holds c = (refl, seeking-first _ _ _ _ (c .before .before .pre .1))
@@ -68,6 +68,7 @@ find-spec =
     Inv-loop
     μ-loop
     loop-holds
+    (λ c. search needs)
     link-requires
     (λ c. search needs)
     returns
@@ -76,11 +77,11 @@ find-spec =
     link-requires-2
     (λ c. search needs)
     returns-2
+    (λ c. search needs)
     (λ c. let r = row-there _ _ _ _ _ _ (c .before .before .before .before .before .before .loop .inv .1) (c .before .before .before .before .before .before .before .before .before .pre .0) in omega arith)
     (λ c. let r = row-there _ _ _ _ _ _ (c .before .before .before .before .before .before .loop .inv .1) (c .before .before .before .before .before .before .before .before .before .pre .0) in omega arith)
     (λ c. let r = row-there _ _ _ _ _ _ (c .before .before .before .before .before .before .loop .inv .1) (c .before .before .before .before .before .before .before .before .before .pre .0) in omega arith)
     write-fits
-    (λ c. search needs)
     (λ c. search needs)
     loop-less
     loop-again)

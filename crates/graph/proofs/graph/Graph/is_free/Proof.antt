@@ -1,4 +1,5 @@
 -- `Graph::is_free` meets its contract.
+use borrow.Author.Needs.{needs}
 use native.Mathlib.Omega.{arith}
 use Rattle.graph.specs.Cells.{room}
 use Rattle.graph.specs.Joins.{head-variable, head-other}
@@ -10,7 +11,7 @@ returns : tie.Need-returns
 returns c = λ g S. free-none _ _ _ g S _ (c .before .before .before .before .pre .1) (head-other g _ (c .before .head .result) (c .before .head .ensures g S) (c .if1 .taken))
 
 returns-2 : tie.Need-returns-2
-returns-2 c = λ g S. free-mark _ _ _ g S _ (c .before .before .before .before .before .pre .1) (head-variable g _ (c .before .before .head .result) (c .before .before .head .ensures g S) (c .before .if1 .left))
+returns-2 c = λ g S. free-mark _ _ _ g S _ (c .before .before .before .before .before .before .pre .1) (head-variable g _ (c .before .before .before .head .result) (c .before .before .before .head .ensures g S) (c .before .before .if1 .left))
 
 pub is-free-spec : {M : Type 1} → statement M
 is-free-spec =
@@ -18,8 +19,9 @@ is-free-spec =
     (tie.spec
     (λ c κs. c .before .before .pre)
     returns
-    (λ c. omega (arith, room _ _ _ (c .before .before .before .before .pre .0), c .before .before .before .before .pre .1))
-    (λ c. omega (arith, room _ _ _ (c .before .before .before .before .pre .0), c .before .before .before .before .pre .1))
-    (λ c. omega (arith, room _ _ _ (c .before .before .before .before .pre .0), c .before .before .before .before .pre .1))
+    (λ c. search needs)
     (λ c. omega (arith, room _ _ _ (c .before .before .before .before .before .pre .0), c .before .before .before .before .before .pre .1))
+    (λ c. omega (arith, room _ _ _ (c .before .before .before .before .before .pre .0), c .before .before .before .before .before .pre .1))
+    (λ c. omega (arith, room _ _ _ (c .before .before .before .before .before .pre .0), c .before .before .before .before .before .pre .1))
+    (λ c. omega (arith, room _ _ _ (c .before .before .before .before .before .before .pre .0), c .before .before .before .before .before .before .pre .1))
     returns-2)

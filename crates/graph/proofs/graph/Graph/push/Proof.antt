@@ -26,7 +26,7 @@ same-length c =
     pushed-long (a .cells .now) (a .args .now) (c .before .before .before .before .before .before .before .copy-words .last .1 .0) used (a .head) (used + 1 + length (a .args .now)) refl (omega (arith, c .before .before .before .before .before .before .before .before .before .if1 .left, c .before .before .before .before .before .before .before .before .before .before .before .before .before .pre .fits)) (c .before .before .before .before .before .before .before .copy-words .ensures)
 
 returns-2 : tie.Need-returns-2
-returns-2 c = app-pushed _ _ _ (c .before .before .before .before .before .before .before .before .before .before .before .before .before .args .args .now) (c .before .before .before .before .before .before .before .copy-words .last .1 .0) _ _ _ (c .before .before .before .before .before .before .before .before .before .before .before .before .before .pre) refl (omega (arith, c .before .before .before .before .before .before .before .before .before .if1 .left, c .before .before .before .before .before .before .before .before .before .before .before .before .before .pre .fits)) (c .before .before .before .before .before .before .before .copy-words .ensures) (c .before .before .put-row .ensures)
+returns-2 c = app-pushed _ _ _ (c .before .before .before .before .before .before .before .before .before .before .before .before .before .args .args .now) (c .before .before .before .before .before .before .before .copy-words .last .1 .0) _ _ refl _ _ (c .before .before .before .before .before .before .before .before .before .before .before .before .before .pre) refl (omega (arith, c .before .before .before .before .before .before .before .before .before .if1 .left, c .before .before .before .before .before .before .before .before .before .before .before .before .before .pre .fits)) (c .before .before .before .before .before .before .before .copy-words .ensures) (c .before .before .put-row .ensures)
 
 pub push-spec : {M : Type 1} → statement M
 push-spec =
@@ -45,6 +45,7 @@ push-spec =
     (λ c. simp length-set (omega (arith, c .if1 .left, c .before .before .before .before .pre .fits)))
     (λ c κs. search needs)
     put-row-requires
+    (λ c. let n = nodes-few _ _ _ (c .before .before .before .before .before .before .before .before .before .before .before .before .before .pre) in omega (arith, c .before .before .before .before .before .before .before .before .before .before .before .before .before .pre .fits, c .before .before .before .before .before .before .before .before .before .before .before .before .before .pre .small))
     (λ c. let n = nodes-few _ _ _ (c .before .before .before .before .before .before .before .before .before .before .before .before .before .pre) in omega (arith, c .before .before .before .before .before .before .before .before .before .before .before .before .before .pre .fits, c .before .before .before .before .before .before .before .before .before .before .before .before .before .pre .small))
     same-length
     (λ c. search needs)

@@ -1,5 +1,6 @@
 -- `Graph::var` meets its contract.
 use borrow.Author.Needs.{needs}
+use mathlib.Core.Path.{refl}
 use native.Mathlib.Omega.{arith}
 use Rattle.definition.specs.Graph.{variableVertex}
 use Rattle.graph.specs.Cells.{markIn, nodes-few}
@@ -17,7 +18,7 @@ put-row-requires c κs =
     (omega (arith, L .wide, L .fits, c .before .before .if1 .left), omega (arith, L .small, c .before .before .if1 .left))
 
 returns-2 : tie.Need-returns-2
-returns-2 c = var-pushed _ _ _ _ (c .before .before .before .before .before .before .before .before .pre) (omega (arith, c .before .before .before .before .before .if1 .left)) _ _ _ (c .before .before .put-row .ensures)
+returns-2 c = var-pushed _ _ _ _ _ refl (c .before .before .before .before .before .before .before .before .pre) (omega (arith, c .before .before .before .before .before .if1 .left)) _ _ _ (c .before .before .put-row .ensures)
 
 pub var-spec : {M : Type 1} → statement M
 var-spec =
@@ -28,6 +29,7 @@ var-spec =
     (λ c. search needs)
     (λ c. search needs)
     put-row-requires
+    (λ c. let n = nodes-few _ _ _ (c .before .before .before .before .before .before .before .before .pre) in omega (arith, c .before .before .before .before .before .before .before .before .pre .fits, c .before .before .before .before .before .before .before .before .pre .small))
     (λ c. let n = nodes-few _ _ _ (c .before .before .before .before .before .before .before .before .pre) in omega (arith, c .before .before .before .before .before .before .before .before .pre .fits, c .before .before .before .before .before .before .before .before .pre .small))
     (λ c. search needs)
     (λ c. search needs)
