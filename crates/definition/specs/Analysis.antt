@@ -12,20 +12,18 @@ use Rattle.definition.specs.Verdict.{Bound, valueOf, provided, onwards}
 use Rattle.definition.specs.Store.{variableNode, isVariable, below, Stored, intern}
 use Rattle.definition.specs.Graph.{Vertex, Graph, variableVertex, applied, vertex, Grown, push, root, isVar}
 
--- the numbers among those below n that are wanted, or stand below a wanted one, ascending
-unfoldable pub partsBelow : ℕ → List Node → List ℕ → List ℕ
+-- the numbers met from these on, at most d deep: behind those seen, each once and behind what is below it
+unfoldable pub partsFrom : ℕ → List Node → List ℕ → List ℕ → List ℕ
 unfolding any below
-partsBelow zero s wanted = []
-partsBelow (suc n) s wanted =
-    elim (any (eqb n) wanted) [
-      | true ↦ partsBelow n s (below (getD s n noNode) ++ wanted) ++ (n ∷ [])
-      | false ↦ partsBelow n s wanted
-    ]
+partsFrom zero s [] seen = seen
+partsFrom zero s (p ∷ ps) seen = seen
+partsFrom (suc d) s [] seen = seen
+partsFrom (suc d) s (p ∷ ps) seen = partsFrom (suc d) s ps (elim (any (eqb p) seen) [ true ↦ seen | false ↦ partsFrom d s (below (getD s p noNode)) seen ++ (p ∷ []) ])
 
--- the distinct nodes of a pattern, ascending: each stands above what is below it
+-- the distinct nodes of a pattern, as `copy` meets them: each behind what is below it
 unfoldable pub parts : List Node → ℕ → List ℕ
-unfolding partsBelow
-parts s p = partsBelow (suc p) s (p ∷ [])
+unfolding partsFrom
+parts s p = partsFrom (suc p) s (p ∷ []) []
 
 -- a pattern node's copy, and a class variable's: what a number was copied to
 unfoldable pub copied : List Bound → ℕ → ℕ

@@ -123,9 +123,9 @@ built-principal P G A b B e n m =
     let at : ℕ → Class = λ c. getD (b .classes) c noClass in
     let inside : (c : ℕ) → c < length (b .classes) → at c .conclusion < length (b .store) = λ c h. let X = B .classes c h in sorted-inside P (b .store) (X .sorts) (at c .conclusion) _ (X .sorted) in
     let to : (c : ℕ) → c < length (b .classes) → (j : Tree) → InstanceOf P (b .store) (at c .conclusion) j → InstanceOf P store (conclusionIn P class c) j =
-    λ c h j N. subst (λ (p : ℕ). InstanceOf P store p j) (sym (conclusion-back P G b n e c h)) (instance-grows P (b .store) store (at c .conclusion) j grows (inside c h) N) in
+    λ c h j N. subst (λ (p : ℕ). InstanceOf P store p j) (sym (conclusion-back P G b n e c h)) (instance-grows P (b .store) store (at c .conclusion) j (B .earlier) grows (inside c h) N) in
     let from : (c : ℕ) → c < length (b .classes) → (j : Tree) → InstanceOf P store (conclusionIn P class c) j → InstanceOf P (b .store) (at c .conclusion) j =
-    λ c h j N. instance-before P (b .store) store (at c .conclusion) j grows (inside c h) (subst (λ (p : ℕ). InstanceOf P store p j) (conclusion-back P G b n e c h) N) in
+    λ c h j N. instance-before P (b .store) store (at c .conclusion) j (B .earlier) grows (inside c h) (subst (λ (p : ℕ). InstanceOf P store p j) (conclusion-back P G b n e c h) N) in
     record {
       held = λ s l h.
           let w = word-back P G b n s l in

@@ -1,7 +1,6 @@
 -- Patterns in the store, their instances, and how a graph's nodes are read back.
 pub mod Valued
 pub mod Interned
-pub mod Inherit
 pub mod Sorted
 pub mod Instances
 pub mod Resolved

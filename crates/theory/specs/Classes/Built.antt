@@ -35,14 +35,14 @@ pub record Exact (P : Pack) (words : List ℕ) (store : List Node) (p c : ℕ) :
   pub instances : (j : Tree) → Concludes P words c j → InstanceOf P store p j
 
 -- it stays so when the store grows
-pub exact-grows : (P : Pack) (words : List ℕ) (s t : List Node) (p c : ℕ) → Grows s t → Exact P words s p c → Exact P words t p c
-exact-grows P words s t p c G X =
+pub exact-grows : (P : Pack) (words : List ℕ) (s t : List Node) (p c : ℕ) → Earlier s → Grows s t → Exact P words s p c → Exact P words t p c
+exact-grows P words s t p c E G X =
     let l = sorted-inside P s (X .sorts) p prop (X .sorted) in
     record {
       sorts = X .sorts;
       sorted = sorted-grows P s t (X .sorts) G p prop (X .sorted);
-      derived = λ j i. X .derived j (instance-before P s t p j G l i);
-      instances = λ j d. instance-grows P s t p j G l (X .instances j d);
+      derived = λ j i. X .derived j (instance-before P s t p j E G l i);
+      instances = λ j d. instance-grows P s t p j E G l (X .instances j d);
     }
 
 -- a good state of class building
@@ -67,7 +67,7 @@ built-more P words b store x fill B G E O X =
         | is false p ↦
             let l = length-append xs (x ∷ []) in
             let o : c < length xs = omega tests in
-            rw (List·getD-append xs (x ∷ []) noClass c o) (exact-grows P words (b .store) store (getD xs c noClass .conclusion) c G (B .classes c o))
+            rw (List·getD-append xs (x ∷ []) noClass c o) (exact-grows P words (b .store) store (getD xs c noClass .conclusion) c (B .earlier) G (B .classes c o))
       ];
     }
 

@@ -195,7 +195,7 @@ module _ (P : Pack) (G : Good P) (F : Few P) (few : length (P .steps) < nothing)
         let store = resolve (suc (length g)) P g values false xs (conclusion .state) .state .store in
         let Z = resolve-keeps P g values false (suc (length g)) xs (conclusion .state) .0 in
         add-made P words b store x B (grows-then (b .store) (conclusion .state .store) store (readIt .grows) (Z .grows)) (Z .earlier (readIt .earlier)) (Z .once (readIt .once (B .once)))
-        (rw e (exact-grows P words (conclusion .state .store) store (getD (conclusion .patterns) 0 0) (length (b .classes)) (Z .grows) exact))
+        (rw e (exact-grows P words (conclusion .state .store) store (getD (conclusion .patterns) 0 0) (length (b .classes)) (readIt .earlier) (Z .grows) exact))
 
   -- the class is made
   step-made : Makes P words b (makeRule P s words b)

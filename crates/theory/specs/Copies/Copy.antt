@@ -10,28 +10,20 @@ use Rattle.definition.specs.Test.{is, see, never}
 use Rattle.definition.specs.Pack.{Node, noNode, Pack}
 use Rattle.definition.specs.Tree.{Tree, tree, tree-then, turn, turns}
 use Rattle.definition.specs.Verdict.{Bound, valueOf}
-use Rattle.definition.specs.Store.{isVariable, below, termOf}
+use Rattle.definition.specs.Store.{isVariable, termOf}
 use Rattle.definition.specs.Graph.{Vertex, Graph, isVar}
-use Rattle.definition.specs.Analysis.{parts, copied, Copy, copyNode, copyAll, copy}
+use Rattle.definition.specs.Analysis.{parts, copied, Copy, copy}
 use Rattle.theory.specs.Derive.{In}
 use Rattle.theory.specs.Unification.Solve.{treesAt, Solves, Formed, Begins}
 use Rattle.theory.specs.Copies.Begin.{begins-refl}
 use Rattle.theory.specs.Copies.Terms.{Earlier, termsAt, below-applied, term-variable, term-applied}
-use Rattle.theory.specs.Copies.Parts.{here, there, in-front, in-none, in-here, in-there, in-below, Rising, rising-from, parts-rising, parts-closed}
-use Rattle.theory.specs.Copies.Copying.{valueOf-new, valueOf-old, copied-is, Made, made-is, numberAt, CopyOf, Copying}
-use Rattle.theory.specs.Copies.CopyNode.{PartsFormed, OneEach, copyNode-nodes, copyNode-copying}
-
--- a number that is copied, or still to come
-data Ready (bs : List Bound) (qs : List ℕ) (a : ℕ) : Type 0 where
-  ready : Made bs a → Ready bs qs a
-  coming : In a qs → Ready bs qs a
-
--- after the copies of qs
-record Done (P : Pack) (s : List Node) (flex : List Bool) (ps : List ℕ) (g : Graph) (qs : List ℕ) (c d : Copy) : Type 0 where
-  bound : ℕ
-  copying : Copying P s flex ps g bound d
-  keeps : (a : ℕ) → Made (c .nodes) a → Made (d .nodes) a
-  makes : (q : ℕ) → In q qs → Made (d .nodes) q
+use Rattle.theory.specs.Copies.Parts.{here, there, in-front, in-none, in-here, in-there, in-below, in-any, kidsIn, kids-fall, Inherited, parts-self, parts-closed}
+use Rattle.theory.specs.Copies.Copying.{copied-is, Made, numberAt, CopyOf, Copying}
+use Rattle.theory.specs.Copies.CopyNode.{PartsFormed, OneEach, copyNode-copying}
+use Rattle.theory.specs.Walks.Walk.{Under, Known, walk}
+use Rattle.theory.specs.Walks.WalkOnce.{once-induct}
+use Rattle.theory.specs.Walks.Memo.{has-value, has-none}
+use Rattle.theory.specs.Walks.CopyWalk.{noCopy, isCopied, copyAt, copy-made, copy-others, copy-known, copy-walk}
 
 -- the trees of copies are what the terms of the patterns become, if each is
 copies-turn : (s : List Node) (θ ν : ℕ → Tree) (bs : List Bound) (args : List ℕ) → ((a : ℕ) → In a args → θ (copied bs a) ≡ turn ν (termOf s a))
@@ -40,48 +32,36 @@ unfolding treesAt turn termsAt
 copies-turn s θ ν bs [] h = refl
 copies-turn s θ ν bs (a ∷ args) h = ap₂ tree-then (h a (in-here a args)) (copies-turn s θ ν bs args (λ b k. h b (in-there b a args k)))
 
+-- what the nodes that were copied stand for
+made-all : (c : Copy) (xs : List ℕ) → Known isCopied c xs → (a : ℕ) → In a xs → Made (c .nodes) a
+unfolding isCopied
+made-all c [] k a i = absurd (in-none a i)
+made-all c (x ∷ xs) k a i = elim (in-front a x xs i) [
+  | here e ↦ rw e (has-value (c .nodes) x (k .0))
+  | there t ↦ made-all c xs (k .1) a t
+]
+
 module _ (P : Pack) (s : List Node) (flex : List Bool) (ps : List ℕ) (g : Graph) (E : Earlier s) (F : PartsFormed P s ps) (one : OneEach s ps) where
-  -- ascending patterns, each over ones that are copied or come before it
-  copyAll-done : (qs : List ℕ) (n : ℕ) (c : Copy) → Copying P s flex ps g n c → Rising n qs → ((q : ℕ) → In q qs → In q ps)
-      → ((q a : ℕ) → In q qs → In a (below (getD s q noNode)) → Ready (c .nodes) qs a) → Done P s flex ps g qs c (copyAll s flex c qs)
-  unfolding copyAll
-  copyAll-done [] n c C r sub over = record { bound = n; copying = C; keeps = λ a m. m; makes = λ q i. absurd (in-none q i) }
-  copyAll-done (q ∷ qs) n c C r sub over =
-      let d = copyNode s flex c q in
-      let nodes = copyNode-nodes s flex c q in
-      let here-q = sub q (in-here q qs) in
-      let made-below : (a : ℕ) → In a (below (getD s q noNode)) → Made (c .nodes) a =
-      λ a k.
-      let l = in-below q (below (getD s q noNode)) (E q (F .inside q here-q)) a k in
-      elim (over q a (in-here q qs) k) [
-        | ready m ↦ m
-        | coming i ↦ let w = rising-from q (q ∷ qs) (omega arith, r .1) a i in absurd (omega arith)
-      ] in
-      let keep : (a : ℕ) → Made (c .nodes) a → Made (d .nodes) a =
-      λ a m.
-      let low = C .low a (copied (c .nodes) a) m in
-      let first = r .0 in
-      made-is (d .nodes) a (copied (c .nodes) a) (ap (valueOf a) nodes ∙ valueOf-old q (length (c .graph)) (c .nodes) a (λ e. omega arith) ∙ m) in
-      let make : Made (d .nodes) q = made-is (d .nodes) q (length (c .graph)) (ap (valueOf q) nodes ∙ valueOf-new q (length (c .graph)) (c .nodes)) in
-      let D = copyNode-copying P s flex ps g E F one n c C q (r .0) here-q made-below in
-      let rest = copyAll-done qs (suc q) d D (r .1) (λ p i. sub p (in-there p q qs i)) (λ p a i k. elim (over p a (in-there p q qs i) k) [
-        | ready m ↦ ready (keep a m)
-        | coming j ↦ elim (in-front a q qs j) [ here e ↦ ready (rw e make) | there t ↦ coming t ]
-      ]) in
-      record {
-        bound = rest .bound;
-        copying = rest .copying;
-        keeps = λ a m. rest .keeps a (keep a m);
-        makes = λ p i. elim (in-front p q qs i) [ here e ↦ rw e (rest .keeps q make) | there t ↦ rest .makes p t ];
-      }
+  -- patterns are copied as the walk meets them, if with a node all below it is among them
+  walk-copying : Inherited s (λ q. In q ps) → (d : ℕ) (xs : List ℕ) (c : Copy) → Under (λ n. n) d xs → ((q : ℕ) → In q xs → In q ps) → Copying P s flex ps g c
+      → Copying P s flex ps g (walk (kidsIn s) isCopied (copyAt s flex) d xs c)
+  unfolding isCopied copyAt
+  walk-copying I = once-induct (kidsIn s) isCopied (copyAt s flex) (copy-made s flex) (copy-others s flex) (λ n. n) (kids-fall s E)
+      (λ xs c d. ((q : ℕ) → In q xs → In q ps) → Copying P s flex ps g c → Copying P s flex ps g d)
+      (λ c sub C. C)
+      (λ x c k sub C. C)
+      (λ x c d u k J sub C.
+      let i = sub x (in-here x []) in
+      copyNode-copying P s flex ps g F one d (J (λ q h. I x q i h) C) x (has-none (d .nodes) x u) i (made-all d (kidsIn s x) k))
+      (λ x xs c d e k l J K sub C. K (λ q h. sub q (in-there q x xs h)) (J (λ q h. sub q (elim (in-front q x [] h) [ here e ↦ rw e (in-here x xs) | there t ↦ absurd (in-none q t) ])) C))
 
   -- a solution that gives copies of variables their trees gives every copy what its pattern's term becomes
-  copy-turns : (n : ℕ) (c : Copy) → Copying P s flex ps g n c → (θ ν : ℕ → Tree) → Solves θ (c .graph)
+  copy-turns : (c : Copy) → Copying P s flex ps g c → (θ ν : ℕ → Tree) → Solves θ (c .graph)
       → ((q x : ℕ) → valueOf q (c .nodes) ≡ some x → isVariable (getD s q noNode) ≡ true → θ x ≡ ν (numberAt s q))
       → (m q x : ℕ) → q < m → valueOf q (c .nodes) ≡ some x → θ x ≡ turn ν (termOf s q)
   unfolding turn isVar isVariable
-  copy-turns n c C θ ν S values zero q x l o = absurd (omega arith)
-  copy-turns n c C θ ν S values (suc m) q x l o =
+  copy-turns c C θ ν S values zero q x l o = absurd (omega arith)
+  copy-turns c C θ ν S values (suc m) q x l o =
       let k = F .inside q (C .among q x o) in
       let M = C .made q x o in
       let node = getD s q noNode in
@@ -93,7 +73,7 @@ module _ (P : Pack) (s : List Node) (flex : List Bool) (ps : List ℕ) (g : Grap
             let below-turn : (a : ℕ) → In a (node .args) → θ (copied (c .nodes) a) ≡ turn ν (termOf s a) =
             λ a i.
             let w = in-below q (node .args) args-below a i in
-            copy-turns n c C θ ν S values m a (copied (c .nodes) a) (omega arith) (M .over e a i) in
+            copy-turns c C θ ν S values m a (copied (c .nodes) a) (omega arith) (M .over e a i) in
             S .apps x (M .inside) (ap (λ (v : Vertex). v .link) v) (ap isVar v ∙ e)
             ∙ ap (λ (v : Vertex). tree (v .head) (treesAt θ (v .args))) v
             ∙ ap (tree (node .head)) (copies-turn s θ ν (c .nodes) (node .args) below-turn)
@@ -101,12 +81,11 @@ module _ (P : Pack) (s : List Node) (flex : List Bool) (ps : List ℕ) (g : Grap
       ]
 
 -- before the first copy
-nothing-copied : (P : Pack) (s : List Node) (flex : List Bool) (ps : List ℕ) (g : Graph) → Formed P g → Copying P s flex ps g 0 (record { graph = g; nodes = []; variables = [] })
+nothing-copied : (P : Pack) (s : List Node) (flex : List Bool) (ps : List ℕ) (g : Graph) → Formed P g → Copying P s flex ps g (noCopy g)
 unfolding valueOf
 nothing-copied P s flex ps g f = record {
   begins = begins-refl g;
   formed = f;
-  low = λ q x e. never (cc);
   among = λ q x e. never (cc);
   made = λ q x e. never (cc);
   extends = λ θ ν S. record { solution = θ; agrees = λ x l. refl; solves = S; values = λ q x e f. never (cc) };
@@ -131,29 +110,29 @@ pub record Copied (P : Pack) (s : List Node) (flex : List Bool) (g : Graph) (p :
 -- a fresh copy of a pattern whose parts are well sorted, no two of its variables having one number
 pub copy-says : (P : Pack) (s : List Node) (flex : List Bool) (g : Graph) (p : ℕ) → Earlier s → PartsFormed P s (parts s p) → Formed P g → p < length s
     → OneEach s (parts s p) → Copied P s flex g p (copy s flex g p)
-unfolding copy
+unfolding isCopied
 copy-says P s flex g p E F f l one =
     let ps = parts s p in
     let c = copy s flex g p in
-    let D = copyAll-done P s flex ps g E F one ps 0 (record { graph = g; nodes = []; variables = [] }) (nothing-copied P s flex ps g f) (parts-rising s p) (λ q i. i)
-    (λ q a i k. coming (parts-closed s E p l q a i k)) in
-    let C = D .copying in
-    let copies : (q : ℕ) → In q ps → CopyOf P s flex c q (copied (c .nodes) q) = λ q i. C .made q (copied (c .nodes) q) (D .makes q i) in
+    let self : (q : ℕ) → In q (p ∷ []) → In q ps = λ q i. elim (in-front q p [] i) [ here e ↦ rw e (parts-self s p) | there t ↦ absurd (in-none q t) ] in
+    let C : Copying P s flex ps g c = rw (copy-walk s flex g p) (walk-copying P s flex ps g E F one (parts-closed s E p) (suc p) (p ∷ []) (noCopy g) (omega arith, tt) self (nothing-copied P s flex ps g f)) in
+    let makes : (q : ℕ) → In q ps → Made (c .nodes) q = λ q i. has-value (c .nodes) q (copy-known s flex g p q ∙ in-any q ps i) in
+    let copies : (q : ℕ) → In q ps → CopyOf P s flex c q (copied (c .nodes) q) = λ q i. C .made q (copied (c .nodes) q) (makes q i) in
     record {
       begins = C .begins;
       formed = C .formed;
       copies = copies;
       is = λ θ S q i.
-          copy-turns P s flex ps g E F one (D .bound) c C θ (λ k. θ (copied (c .variables) k)) S
+          copy-turns P s flex ps g E F one c C θ (λ k. θ (copied (c .variables) k)) S
           (λ r x o e. ap θ (sym (copied-is (c .variables) (numberAt s r) x (C .made r x o .value e))))
-          (suc q) q (copied (c .nodes) q) (omega arith) (D .makes q i);
+          (suc q) q (copied (c .nodes) q) (omega arith) (makes q i);
       extends = λ θ ν S.
           let W = C .extends θ ν S in
           record {
             solution = W .solution;
             agrees = W .agrees;
             solves = W .solves;
-            values = λ q i e. ap (W .solution) (copied-is (c .variables) (numberAt s q) (copied (c .nodes) q) (copies q i .value e)) ∙ W .values q (copied (c .nodes) q) (D .makes q i) e;
-            is = λ q i. copy-turns P s flex ps g E F one (D .bound) c C (W .solution) ν (W .solves) (W .values) (suc q) q (copied (c .nodes) q) (omega arith) (D .makes q i);
+            values = λ q i e. ap (W .solution) (copied-is (c .variables) (numberAt s q) (copied (c .nodes) q) (copies q i .value e)) ∙ W .values q (copied (c .nodes) q) (makes q i) e;
+            is = λ q i. copy-turns P s flex ps g E F one c C (W .solution) ν (W .solves) (W .values) (suc q) q (copied (c .nodes) q) (omega arith) (makes q i);
           };
     }

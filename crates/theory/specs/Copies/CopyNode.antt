@@ -2,7 +2,8 @@
 use mathlib.Core.Path.{_≡_, refl, sym, ap, _∙_}
 use mathlib.Core.Bool.{Bool, true, false}
 use mathlib.Core.List.{List, [], _∷_, map}
-use Prim.Native.Nat.{ℕ, suc, _<_, _≤_}
+use mathlib.Core.Option.{none}
+use Prim.Native.Nat.{ℕ, _<_}
 use native.Mathlib.Omega.{arith}
 use lib.ListN.{length, getD}
 use Rattle.definition.specs.Test.{is, see, never}
@@ -16,9 +17,9 @@ use Rattle.definition.specs.Analysis.{copied, Copy, pairing, copyNode}
 use Rattle.theory.specs.Derive.{In}
 use Rattle.theory.specs.Unification.Solve.{treesAt, SortsAt}
 use Rattle.theory.specs.Copies.Push.{push-length, push-new, push-sort-variable, push-sort-applied, new-variable, new-applied}
-use Rattle.theory.specs.Copies.Terms.{Earlier, below-applied}
+use Rattle.theory.specs.Copies.Terms.{below-applied}
 use Rattle.theory.specs.Copies.Parts.{in-here, in-there}
-use Rattle.theory.specs.Copies.Copying.{valueOf-new, valueOf-old, Made, made-is, copies-same, numberAt, patternSort, Copying, grown, Next, next-copying}
+use Rattle.theory.specs.Copies.Copying.{valueOf-new, valueOf-old, value-apart, Made, made-is, copies-same, numberAt, patternSort, Copying, grown, Next, next-copying}
 
 -- patterns of these sorts
 abbrev pub PatternSorts : Pack → List Node → List ℕ → List ℕ → Type 0
@@ -64,12 +65,12 @@ copyNode-nodes s flex c p = elim (see (isVariable (getD s p noNode))) [
   | is false e ↦ ap (λ (c : Copy). c .nodes) (copyNode-applied s flex c p e)
 ]
 
-module _ (P : Pack) (s : List Node) (flex : List Bool) (ps : List ℕ) (g : Graph) (E : Earlier s) (F : PartsFormed P s ps) (one : OneEach s ps) where
+module _ (P : Pack) (s : List Node) (flex : List Bool) (ps : List ℕ) (g : Graph) (F : PartsFormed P s ps) (one : OneEach s ps) where
   -- a variable comes next
-  next-variable : (n : ℕ) (c : Copy) → Copying P s flex ps g n c → (p : ℕ) → n ≤ p → In p ps → isVariable (getD s p noNode) ≡ true
+  next-variable : (c : Copy) → Copying P s flex ps g c → (p : ℕ) → valueOf p (c .nodes) ≡ none → In p ps → isVariable (getD s p noNode) ≡ true
       → Next P s flex c p (variableCopy s flex p) (pairing (numberAt s p) (length (c .graph)) ∷ c .variables)
   unfolding isVar patternSort
-  next-variable n c C p l i e =
+  next-variable c C p new i e =
       let v = variableCopy s flex p in
       let sort : patternSort P s p ≡ getD (getD s p noNode .args) 1 0 = rw (e, patternSort) in
       record {
@@ -83,44 +84,40 @@ module _ (P : Pack) (s : List Node) (flex : List Bool) (ps : List ℕ) (g : Grap
           over = λ f a k. never (cc);
         };
         stays = λ q x o f. valueOf-old (numberAt s p) (length (c .graph)) (c .variables) (numberAt s q) (λ k.
-            let m = C .low q x o in
-            let same = one q p (C .among q x o) i f e k in
-            omega arith);
+            value-apart (c .nodes) q p x o new (one q p (C .among q x o) i f e k));
         tree-of = λ θ ν. ν (numberAt s p);
         free = λ θ ν f. refl;
         forced = λ θ ν f. never (cc);
       }
 
   -- copies of patterns of these sorts are nodes of these sorts
-  copies-sorts : (n : ℕ) (c : Copy) → Copying P s flex ps g n c → (args ts : List ℕ) → ((a : ℕ) → In a args → Made (c .nodes) a) → PatternSorts P s args ts
+  copies-sorts : (c : Copy) → Copying P s flex ps g c → (args ts : List ℕ) → ((a : ℕ) → In a args → Made (c .nodes) a) → PatternSorts P s args ts
       → SortsAt P (c .graph) (map (copied (c .nodes)) args) ts
-  copies-sorts n c C [] [] m h = tt
-  copies-sorts n c C [] (t ∷ ts) m h = absurd h
-  copies-sorts n c C (a ∷ args) [] m h = absurd h
-  copies-sorts n c C (a ∷ args) (t ∷ ts) m h =
-      (C .made a (copied (c .nodes) a) (m a (in-here a args)) .sort ∙ h .0, copies-sorts n c C args ts (λ b k. m b (in-there b a args k)) (h .1))
+  copies-sorts c C [] [] m h = tt
+  copies-sorts c C [] (t ∷ ts) m h = absurd h
+  copies-sorts c C (a ∷ args) [] m h = absurd h
+  copies-sorts c C (a ∷ args) (t ∷ ts) m h =
+      (C .made a (copied (c .nodes) a) (m a (in-here a args)) .sort ∙ h .0, copies-sorts c C args ts (λ b k. m b (in-there b a args k)) (h .1))
 
   -- copies are nodes of the graph
-  copies-below : (n : ℕ) (c : Copy) → Copying P s flex ps g n c → (args : List ℕ) → ((a : ℕ) → In a args → Made (c .nodes) a) → Below (length (c .graph)) (map (copied (c .nodes)) args)
-  copies-below n c C [] m = tt
-  copies-below n c C (a ∷ args) m = (C .made a (copied (c .nodes) a) (m a (in-here a args)) .inside, copies-below n c C args (λ b k. m b (in-there b a args k)))
+  copies-below : (c : Copy) → Copying P s flex ps g c → (args : List ℕ) → ((a : ℕ) → In a args → Made (c .nodes) a) → Below (length (c .graph)) (map (copied (c .nodes)) args)
+  copies-below c C [] m = tt
+  copies-below c C (a ∷ args) m = (C .made a (copied (c .nodes) a) (m a (in-here a args)) .inside, copies-below c C args (λ b k. m b (in-there b a args k)))
 
   -- an application comes next, its arguments copied
-  next-applied : (n : ℕ) (c : Copy) → Copying P s flex ps g n c → (p : ℕ) → n ≤ p → In p ps → isVariable (getD s p noNode) ≡ false
+  next-applied : (c : Copy) → Copying P s flex ps g c → (p : ℕ) → valueOf p (c .nodes) ≡ none → In p ps → isVariable (getD s p noNode) ≡ false
       → ((a : ℕ) → In a (getD s p noNode .args) → Made (c .nodes) a) → Next P s flex c p (appliedCopy s c p) (c .variables)
   unfolding isVar isVariable patternSort
-  next-applied n c C p l i e m =
+  next-applied c C p new i e m =
       let h = getD s p noNode .head in
       let args = getD s p noNode .args in
       let v = appliedCopy s c p in
       let apart : isVar v ≡ false = e in
       let sort : patternSort P s p ≡ symbolOf P h .output = rw (e, patternSort) in
       let old : (a : ℕ) → In a args → valueOf a (pairing p (length (c .graph)) ∷ c .nodes) ≡ valueOf a (c .nodes) =
-      λ a k.
-      let low = C .low a (copied (c .nodes) a) (m a k) in
-      valueOf-old p (length (c .graph)) (c .nodes) a (λ z. omega arith) in
+      λ a k. valueOf-old p (length (c .graph)) (c .nodes) a (value-apart (c .nodes) a p (copied (c .nodes) a) (m a k) new) in
       record {
-        node = new-applied P (c .graph) h (map (copied (c .nodes)) args) apart (F .head p i e) (copies-below n c C args m) (copies-sorts n c C args (symbolOf P h .inputs) m (F .sorts p i e));
+        node = new-applied P (c .graph) h (map (copied (c .nodes)) args) apart (F .head p i e) (copies-below c C args m) (copies-sorts c C args (symbolOf P h .inputs) m (F .sorts p i e));
         is = record {
           inside = omega (arith, push-length (c .graph) v);
           sort = push-sort-applied P (c .graph) v apart ∙ sym sort;
@@ -136,14 +133,14 @@ module _ (P : Pack) (s : List Node) (flex : List Bool) (ps : List ℕ) (g : Grap
       }
 
   -- one node's copy
-  pub copyNode-copying : (n : ℕ) (c : Copy) → Copying P s flex ps g n c → (p : ℕ) → n ≤ p → In p ps
-      → ((a : ℕ) → In a (below (getD s p noNode)) → Made (c .nodes) a) → Copying P s flex ps g (suc p) (copyNode s flex c p)
-  copyNode-copying n c C p l i m = elim (see (isVariable (getD s p noNode))) [
+  pub copyNode-copying : (c : Copy) → Copying P s flex ps g c → (p : ℕ) → valueOf p (c .nodes) ≡ none → In p ps
+      → ((a : ℕ) → In a (below (getD s p noNode)) → Made (c .nodes) a) → Copying P s flex ps g (copyNode s flex c p)
+  copyNode-copying c C p new i m = elim (see (isVariable (getD s p noNode))) [
     | is true e ↦
         rw (copyNode-variable s flex c p e)
-        (next-copying P s flex ps g n c C E (F .inside) p (variableCopy s flex p) (pairing (numberAt s p) (length (c .graph)) ∷ c .variables) l i (next-variable n c C p l i e))
+        (next-copying P s flex ps g c C p (variableCopy s flex p) (pairing (numberAt s p) (length (c .graph)) ∷ c .variables) new i (next-variable c C p new i e))
     | is false e ↦
         rw (copyNode-applied s flex c p e)
-        (next-copying P s flex ps g n c C E (F .inside) p (appliedCopy s c p) (c .variables) l i
-        (next-applied n c C p l i e (λ a k. m a (rw (below-applied (getD s p noNode) e) k))))
+        (next-copying P s flex ps g c C p (appliedCopy s c p) (c .variables) new i
+        (next-applied c C p new i e (λ a k. m a (rw (below-applied (getD s p noNode) e) k))))
   ]

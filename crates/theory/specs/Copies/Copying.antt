@@ -3,12 +3,12 @@ use mathlib.Core.Path.{_≡_, refl, sym, ap, ap₂, _∙_}
 use mathlib.Core.Bool.{Bool, true, false}
 use mathlib.Core.List.{List, [], _∷_, map}
 use mathlib.Core.Option.{Option, none, some}
-use Prim.Native.Nat.{ℕ, suc, _<_, _≤_}
+use Prim.Native.Nat.{ℕ, _<_}
 use native.Mathlib.Omega.{arith}
 use borrow.Author.Tests.{eq-eqb, ne-eqb}
 use lib.Dec.{eqb}
 use lib.ListN.{length, getD}
-use Rattle.definition.specs.Test.{is, see, tests}
+use Rattle.definition.specs.Test.{is, see, never, tests}
 use Rattle.definition.specs.Pack.{Node, noNode, Pack, symbolOf}
 use Rattle.definition.specs.Tree.{Tree, tree}
 use Rattle.definition.specs.Verdict.{Bound, valueOf}
@@ -19,8 +19,7 @@ use Rattle.theory.specs.Derive.{In}
 use Rattle.theory.specs.Unification.Solve.{treesAt, Solves, sortAt, Formed, Begins}
 use Rattle.theory.specs.Copies.Begin.{begins-trans, sortAt-begins}
 use Rattle.theory.specs.Copies.Push.{push-begins, push-formed, NewNode, extended, extended-new, extended-old, push-solves}
-use Rattle.theory.specs.Copies.Terms.{Earlier, below-applied}
-use Rattle.theory.specs.Copies.Parts.{in-here, in-there, in-below}
+use Rattle.theory.specs.Copies.Parts.{in-here, in-there}
 
 -- the newest value
 pub valueOf-new : (k x : ℕ) (bs : List Bound) → valueOf k (pairing k x ∷ bs) ≡ some x
@@ -31,6 +30,10 @@ valueOf-new k x bs = rw (eq-eqb k k refl, valueOf)
 pub valueOf-old : (k x : ℕ) (bs : List Bound) (q : ℕ) → (q ≡ k → ⊥) → valueOf q (pairing k x ∷ bs) ≡ valueOf q bs
 unfolding valueOf
 valueOf-old k x bs q n = rw (ne-eqb k q (λ e. n (sym e)), valueOf)
+
+-- a number with a value is not one without
+pub value-apart : (bs : List Bound) (q p x : ℕ) → valueOf q bs ≡ some x → valueOf p bs ≡ none → q ≡ p → ⊥
+value-apart bs q p x e n i = let f : some x ≡ none = sym e ∙ ap (λ (k : ℕ). valueOf k bs) i ∙ n in never (cc)
 
 -- a value among one more: the newest, or one that was there
 pub data Looked (k y : ℕ) (bs : List Bound) (q x : ℕ) : Type 0 where
@@ -100,11 +103,10 @@ pub record Valued (s : List Node) (θ ν : ℕ → Tree) (g : Graph) (c : Copy) 
   pub solves : Solves solution (c .graph)
   pub values : (q x : ℕ) → valueOf q (c .nodes) ≡ some x → isVariable (getD s q noNode) ≡ true → solution x ≡ ν (numberAt s q)
 
--- of the patterns ps, some that are below n are copied
-pub record Copying (P : Pack) (s : List Node) (flex : List Bool) (ps : List ℕ) (g : Graph) (n : ℕ) (c : Copy) : Type 0 where
+-- some of the patterns ps are copied
+pub record Copying (P : Pack) (s : List Node) (flex : List Bool) (ps : List ℕ) (g : Graph) (c : Copy) : Type 0 where
   pub begins : Begins g (c .graph)
   pub formed : Formed P (c .graph)
-  pub low : (q x : ℕ) → valueOf q (c .nodes) ≡ some x → q < n
   pub among : (q x : ℕ) → valueOf q (c .nodes) ≡ some x → In q ps
   pub made : (q x : ℕ) → valueOf q (c .nodes) ≡ some x → CopyOf P s flex c q x
   pub extends : (θ ν : ℕ → Tree) → Solves θ g → Valued s θ ν g c
@@ -138,11 +140,10 @@ pub record Next (P : Pack) (s : List Node) (flex : List Bool) (c : Copy) (p : �
   pub free : (θ ν : ℕ → Tree) → isVariable (getD s p noNode) ≡ true → tree-of θ ν ≡ ν (numberAt s p)
   pub forced : (θ ν : ℕ → Tree) → isVar v ≡ false → tree-of θ ν ≡ tree (v .head) (treesAt θ (v .args))
 
--- one node more
-pub next-copying : (P : Pack) (s : List Node) (flex : List Bool) (ps : List ℕ) (g : Graph) (n : ℕ) (c : Copy) → Copying P s flex ps g n c
-    → Earlier s → ((q : ℕ) → In q ps → q < length s) → (p : ℕ) (v : Vertex) (vs : List Bound) → n ≤ p → In p ps → Next P s flex c p v vs
-    → Copying P s flex ps g (suc p) (grown c p v vs)
-next-copying P s flex ps g n c C E inside p v vs l i N =
+-- one node more, for a pattern that was not copied
+pub next-copying : (P : Pack) (s : List Node) (flex : List Bool) (ps : List ℕ) (g : Graph) (c : Copy) → Copying P s flex ps g c
+    → (p : ℕ) (v : Vertex) (vs : List Bound) → valueOf p (c .nodes) ≡ none → In p ps → Next P s flex c p v vs → Copying P s flex ps g (grown c p v vs)
+next-copying P s flex ps g c C p v vs new i N =
     let h = c .graph in
     let d = grown c p v vs in
     let b = push-begins h v in
@@ -150,10 +151,6 @@ next-copying P s flex ps g n c C E inside p v vs l i N =
     record {
       begins = begins-trans g h (d .graph) (C .begins) b;
       formed = push-formed P h v (C .formed) (N .node);
-      low = λ q x e. elim (see-value q x e) [
-        | newest j k ↦ omega arith
-        | older o ↦ let m = C .low q x o in omega arith
-      ];
       among = λ q x e. elim (see-value q x e) [
         | newest j k ↦ rw j i
         | older o ↦ C .among q x o
@@ -161,11 +158,8 @@ next-copying P s flex ps g n c C E inside p v vs l i N =
       made = λ q x e. elim (see-value q x e) [
         | newest j k ↦ rw (j, k) (N .is)
         | older o ↦
-            let m = C .low q x o in
             let below-q : isVariable (getD s q noNode) ≡ false → (a : ℕ) → In a (getD s q noNode .args) → valueOf a (d .nodes) ≡ valueOf a (c .nodes) =
-            λ f a w.
-            let r = in-below q (getD s q noNode .args) (rw (below-applied (getD s q noNode) f) at (E q (inside q (C .among q x o)))) a w in
-            valueOf-old p (length h) (c .nodes) a (λ z. omega arith) in
+            λ f a w. valueOf-old p (length h) (c .nodes) a (value-apart (c .nodes) a p (copied (c .nodes) a) (C .made q x o .over f a w) new) in
             copyOf-kept P s flex c d q x b (N .stays q x o) below-q (C .made q x o)
       ];
       extends = λ θ ν S.

@@ -1,19 +1,21 @@
--- The distinct nodes of a pattern: ascending, with the pattern itself, and with a node all that is below it.
-use mathlib.Core.Path.{_≡_, refl, sym, _∙_}
-use mathlib.Core.Bool.{true, false}
+-- The distinct nodes of a pattern: those that the memoised walk meets, with the pattern itself, and with a node all that is below it.
+use mathlib.Core.Path.{_≡_, refl, sym, ap, _∙_, subst}
+use mathlib.Core.Bool.{Bool, true, false}
 use mathlib.Core.List.{List, [], _∷_, _++_}
 use Prim.Native.Nat.{ℕ, zero, suc, _<_, _≤_}
 use native.Mathlib.Omega.{arith}
-use borrow.Author.Tests.{eq-eqb}
+use borrow.Author.Tests.{eqb-true, eq-eqb, ne-eqb}
 use lib.Dec.{eqb, ltb}
-use lib.ListN.{length, getD, length-append, List·getD-append}
+use lib.ListN.{length, getD, length-append, List·getD-append, List·getD-eq-default}
 use Rattle.definition.specs.Test.{is, see, never, tests, any}
 use Rattle.definition.specs.Pack.{Node, noNode}
-use Rattle.definition.specs.Store.{below}
+use Rattle.definition.specs.Store.{isVariable, below}
 use Rattle.definition.specs.Good.{Below}
 use Rattle.definition.specs.Laws.Grow.{below-more}
-use Rattle.definition.specs.Analysis.{partsBelow, parts}
+use Rattle.definition.specs.Analysis.{partsFrom, parts}
 use Rattle.theory.specs.Derive.{In, at}
+use Rattle.theory.specs.Walks.Walk.{Under, below-under, Known, visit, walk}
+use Rattle.theory.specs.Walks.WalkOnce.{once-induct}
 use Rattle.theory.specs.Copies.Terms.{Earlier}
 
 -- an element of a list with one in front: that one, or one of the list
@@ -68,31 +70,8 @@ in-below n (y ∷ xs) b x h = elim (in-front x y xs h) [
   | there t ↦ in-below n xs (b .1) x t
 ]
 
--- numbers below n with one more that is
-below-snoc : (n : ℕ) (xs : List ℕ) (x : ℕ) → Below n xs → x < n → Below n (xs ++ (x ∷ []))
-below-snoc n [] x b l = (l, tt)
-below-snoc n (y ∷ xs) x b l = (b .0, below-snoc n xs x (b .1) l)
-
--- ascending numbers, from n on
-abbrev pub Rising : ℕ → List ℕ → Type 0
-Rising n [] = Unit {0}
-Rising n (x ∷ xs) = (n ≤ x) × Rising (suc x) xs
-
--- none of them is below n
-pub rising-from : (n : ℕ) (xs : List ℕ) → Rising n xs → (x : ℕ) → In x xs → n ≤ x
-rising-from n [] r x h = absurd (in-none x h)
-rising-from n (y ∷ xs) r x h = elim (in-front x y xs h) [
-  | here e ↦ omega (arith, r .0)
-  | there t ↦ let q = rising-from (suc y) xs (r .1) x t in omega (arith, r .0)
-]
-
--- a greater one at the end
-rising-snoc : (m n : ℕ) (xs : List ℕ) → Rising m xs → Below n xs → m ≤ n → Rising m (xs ++ (n ∷ []))
-rising-snoc m n [] r b l = (l, tt)
-rising-snoc m n (x ∷ xs) r b l = (r .0, rising-snoc (suc x) n xs (r .1) (b .1) (omega (arith, b .0)))
-
 -- the test of a list finds an element
-in-any : (x : ℕ) (xs : List ℕ) → In x xs → any (eqb x) xs ≡ true
+pub in-any : (x : ℕ) (xs : List ℕ) → In x xs → any (eqb x) xs ≡ true
 unfolding any
 in-any x [] h = absurd (in-none x h)
 in-any x (y ∷ xs) h = elim (in-front x y xs h) [
@@ -100,97 +79,152 @@ in-any x (y ∷ xs) h = elim (in-front x y xs h) [
   | there t ↦ elim (see (eqb x y)) [ is true p ↦ rw p | is false p ↦ rw (p, in-any x xs t) ]
 ]
 
--- a number that is wanted is taken
-parts-taken : (n : ℕ) (s : List Node) (wanted : List ℕ) → any (eqb n) wanted ≡ true
-    → partsBelow (suc n) s wanted ≡ partsBelow n s (below (getD s n noNode) ++ wanted) ++ (n ∷ [])
-unfolding partsBelow
-parts-taken n s wanted e = rw (e, partsBelow)
-
--- another is passed over
-parts-passed : (n : ℕ) (s : List Node) (wanted : List ℕ) → any (eqb n) wanted ≡ false → partsBelow (suc n) s wanted ≡ partsBelow n s wanted
-unfolding partsBelow
-parts-passed n s wanted e = rw (e, partsBelow)
-
--- only numbers below n are taken
-partsBelow-below : (n : ℕ) (s : List Node) (wanted : List ℕ) → Below n (partsBelow n s wanted)
-unfolding partsBelow
-partsBelow-below zero s wanted = tt
-partsBelow-below (suc n) s wanted = elim (see (any (eqb n) wanted)) [
-  | is true p ↦
-      let w = below (getD s n noNode) ++ wanted in
-      rw (parts-taken n s wanted p) (below-snoc (suc n) (partsBelow n s w) n (below-more n (suc n) (partsBelow n s w) (omega arith) (partsBelow-below n s w)) (omega arith))
-  | is false p ↦ rw (parts-passed n s wanted p) (below-more n (suc n) (partsBelow n s wanted) (omega arith) (partsBelow-below n s wanted))
+-- what the test of a list finds is an element
+pub any-in : (x : ℕ) (xs : List ℕ) → any (eqb x) xs ≡ true → In x xs
+unfolding any
+any-in x [] h = never (cc)
+any-in x (y ∷ xs) h = elim (see (eqb x y)) [
+  | is true p ↦ let e = eqb-true x y p in rw e (in-here y xs)
+  | is false p ↦ in-there x y xs (any-in x xs (rw p at h))
 ]
 
--- they ascend
-partsBelow-rising : (n : ℕ) (s : List Node) (wanted : List ℕ) → Rising 0 (partsBelow n s wanted)
-unfolding partsBelow
-partsBelow-rising zero s wanted = tt
-partsBelow-rising (suc n) s wanted = elim (see (any (eqb n) wanted)) [
-  | is true p ↦
-      let w = below (getD s n noNode) ++ wanted in
-      rw (parts-taken n s wanted p) (rising-snoc 0 n (partsBelow n s w) (partsBelow-rising n s w) (partsBelow-below n s w) (omega arith))
-  | is false p ↦ rw (parts-passed n s wanted p) (partsBelow-rising n s wanted)
+-- the test of a list finds no more with another number at the end
+any-snoc : (x y : ℕ) (xs : List ℕ) → (x ≡ y → ⊥) → any (eqb y) (xs ++ (x ∷ [])) ≡ any (eqb y) xs
+unfolding any
+any-snoc x y [] n = rw (ne-eqb y x (λ e. n (sym e)))
+any-snoc x y (z ∷ xs) n = elim (see (eqb y z)) [
+  | is true p ↦ rw p
+  | is false p ↦ rw p (any-snoc x y xs n)
 ]
 
--- every wanted number below n is taken
-partsBelow-wanted : (n : ℕ) (s : List Node) (wanted : List ℕ) (q : ℕ) → In q wanted → q < n → In q (partsBelow n s wanted)
-unfolding partsBelow
-partsBelow-wanted zero s wanted q h l = absurd (omega arith)
-partsBelow-wanted (suc n) s wanted q h l = elim (see (any (eqb n) wanted)) [
-  | is true p ↦
-      let w = below (getD s n noNode) ++ wanted in
-      rw (parts-taken n s wanted p) (elim (see (ltb q n)) [
-        | is true m ↦ in-left q (partsBelow n s w) (n ∷ []) (partsBelow-wanted n s w q (in-right q (below (getD s n noNode)) wanted h) (omega tests))
-        | is false m ↦ let e : q ≡ n = omega tests in rw e (in-right n (partsBelow n s w) (n ∷ []) (in-here n []))
-      ])
-  | is false p ↦
-      rw (parts-passed n s wanted p) (elim (see (ltb q n)) [
-        | is true m ↦ partsBelow-wanted n s wanted q h (omega tests)
-        | is false m ↦
-            let e : q ≡ n = omega tests in
-            let t : any (eqb n) wanted ≡ true = rw (← e) (in-any q wanted h) in
-            never (cc)
-      ])
+-- what stands below a number of a store
+abbrev pub kidsIn : List Node → ℕ → List ℕ
+kidsIn s p = below (getD s p noNode)
+
+-- whether a number was met
+abbrev pub isSeen : List ℕ → ℕ → Bool
+isSeen seen p = any (eqb p) seen
+
+-- one that is met now
+abbrev pub addSeen : ℕ → List ℕ → List ℕ
+addSeen p seen = seen ++ (p ∷ [])
+
+-- it was met then
+seen-made : (p : ℕ) (seen : List ℕ) → isSeen (addSeen p seen) p ≡ true
+seen-made p seen = in-any p (addSeen p seen) (in-right p seen (p ∷ []) (in-here p []))
+
+-- the numbers that are met are those of the memoised walk
+pub parts-walk : (s : List Node) (d : ℕ) (ps seen : List ℕ) → partsFrom d s ps seen ≡ walk (kidsIn s) isSeen addSeen d ps seen
+unfolding partsFrom walk
+parts-walk s zero [] seen = refl
+parts-walk s zero (p ∷ ps) seen = refl
+parts-walk s (suc d) [] seen = refl
+parts-walk s (suc d) (p ∷ ps) seen = elim (see (any (eqb p) seen)) [
+  | is true e ↦ rw (e, visit, partsFrom) (parts-walk s (suc d) ps seen)
+  | is false e ↦
+      let ih = parts-walk s d (kidsIn s p) seen in
+      rw (e, visit, partsFrom) (parts-walk s (suc d) ps (addSeen p (partsFrom d s (kidsIn s p) seen)) ∙ ap (λ (l : List ℕ). walk (kidsIn s) isSeen addSeen (suc d) ps (addSeen p l)) ih)
 ]
 
--- with a number all that is below its node is taken
-partsBelow-closed : (n : ℕ) (s : List Node) (wanted : List ℕ) → Earlier s → n ≤ length s
-    → (q a : ℕ) → In q (partsBelow n s wanted) → In a (below (getD s q noNode)) → In a (partsBelow n s wanted)
-unfolding partsBelow
-partsBelow-closed zero s wanted E m q a h k = absurd (in-none q h)
-partsBelow-closed (suc n) s wanted E m q a h k = elim (see (any (eqb n) wanted)) [
-  | is true p ↦
-      let w = below (getD s n noNode) ++ wanted in
-      let h′ : In q (partsBelow n s w ++ (n ∷ [])) = rw (parts-taken n s wanted p) at h in
-      rw (parts-taken n s wanted p) (in-left a (partsBelow n s w) (n ∷ []) (elim (in-append q (partsBelow n s w) (n ∷ []) h′) [
-        | left l ↦ partsBelow-closed n s w E (omega arith) q a l k
-        | right r ↦ elim (in-front q n [] r) [
-          | here e ↦
-              let k′ : In a (below (getD s n noNode)) = rw e at k in
-              partsBelow-wanted n s w a (in-left a (below (getD s n noNode)) wanted k′) (in-below n (below (getD s n noNode)) (E n (omega arith)) a k′)
-          | there t ↦ absurd (in-none q t)
-        ]
-      ]))
-  | is false p ↦ rw (parts-passed n s wanted p) (partsBelow-closed n s wanted E (omega arith) q a (rw (parts-passed n s wanted p) at h) k)
+-- what stands below a number is earlier: a number is its own rank
+pub kids-fall : (s : List Node) → Earlier s → (p : ℕ) → Under (λ n. n) p (kidsIn s p)
+unfolding below isVariable
+kids-fall s E p = elim (see (ltb p (length s))) [
+  | is true h ↦ below-under p (kidsIn s p) (E p (omega tests))
+  | is false h ↦
+      let e : kidsIn s p ≡ [] = ap below (List·getD-eq-default s noNode {n = p} (omega tests)) in
+      subst (λ (xs : List ℕ). Under (λ n. n) p xs) (sym e) tt
 ]
 
--- the parts of a pattern ascend
-pub parts-rising : (s : List Node) (p : ℕ) → Rising 0 (parts s p)
+-- what stands below a number of the store is one
+pub kids-inside : (s : List Node) → Earlier s → (p : ℕ) → p < length s → Below (length s) (kidsIn s p)
+kids-inside s E p h = below-more p (length s) (kidsIn s p) (omega arith) (E p h)
+
+-- what all that is below a node has with it
+abbrev pub Inherited : List Node → (ℕ → Type 0) → Type 0
+Inherited s Q = (q a : ℕ) → Q q → In a (kidsIn s q) → Q a
+
+-- what the numbers have that are met from, and those seen, all have that are met
+partsFrom-inherit : (s : List Node) (Q : ℕ → Type 0) → Inherited s Q → (d : ℕ) (ps seen : List ℕ) → ((q : ℕ) → In q ps → Q q) → ((q : ℕ) → In q seen → Q q)
+    → (q : ℕ) → In q (partsFrom d s ps seen) → Q q
+unfolding partsFrom
+partsFrom-inherit s Q I zero [] seen W S q h = S q h
+partsFrom-inherit s Q I zero (p ∷ ps) seen W S q h = S q h
+partsFrom-inherit s Q I (suc d) [] seen W S q h = S q h
+partsFrom-inherit s Q I (suc d) (p ∷ ps) seen W S q h = elim (see (any (eqb p) seen)) [
+  | is true e ↦ partsFrom-inherit s Q I (suc d) ps seen (λ w k. W w (in-there w p ps k)) S q (rw (e, partsFrom) at h)
+  | is false e ↦
+      let Wp = W p (in-here p ps) in
+      let more = partsFrom d s (kidsIn s p) seen in
+      let T : (w : ℕ) → In w (addSeen p more) → Q w = λ w k. elim (in-append w more (p ∷ []) k) [
+        | left l ↦ partsFrom-inherit s Q I d (kidsIn s p) seen (λ a b. I p a Wp b) S w l
+        | right r ↦ elim (in-front w p [] r) [ here i ↦ rw i Wp | there t ↦ absurd (in-none w t) ]
+      ] in
+      partsFrom-inherit s Q I (suc d) ps (addSeen p more) (λ w k. W w (in-there w p ps k)) T q (rw (e, partsFrom) at h)
+]
+
+-- what a pattern has all its parts have
+pub parts-inherit : (s : List Node) (Q : ℕ → Type 0) → Inherited s Q → (p : ℕ) → Q p → (q : ℕ) → In q (parts s p) → Q q
 unfolding parts
-parts-rising s p = partsBelow-rising (suc p) s (p ∷ [])
+parts-inherit s Q I p Qp q h =
+    partsFrom-inherit s Q I (suc p) (p ∷ []) [] (λ w k. elim (in-front w p [] k) [ here e ↦ rw e Qp | there t ↦ absurd (in-none w t) ]) (λ w k. absurd (in-none w k)) q h
 
 -- the pattern itself is one
 pub parts-self : (s : List Node) (p : ℕ) → In p (parts s p)
-unfolding parts
-parts-self s p = partsBelow-wanted (suc p) s (p ∷ []) p (in-here p []) (omega arith)
+unfolding parts any
+parts-self s p = in-right p (partsFrom p s (kidsIn s p) []) (p ∷ []) (in-here p [])
 
 -- none is beyond it
-pub parts-upto : (s : List Node) (p q : ℕ) → In q (parts s p) → q ≤ p
-unfolding parts
-parts-upto s p q h = let l = in-below (suc p) (parts s p) (partsBelow-below (suc p) s (p ∷ [])) q h in omega arith
+pub parts-upto : (s : List Node) → Earlier s → (p q : ℕ) → In q (parts s p) → q ≤ p
+parts-upto s E p = parts-inherit s (λ q. q ≤ p) (λ q a l k. let m = under-in q (kidsIn s q) (kids-fall s E q) a k in omega arith) p (omega arith)
+  where
+    under-in : (n : ℕ) (xs : List ℕ) → Under (λ n. n) n xs → (x : ℕ) → In x xs → x < n
+    under-in n [] u x h = absurd (in-none x h)
+    under-in n (y ∷ xs) u x h = elim (in-front x y xs h) [
+      | here e ↦ omega (arith, u .0)
+      | there t ↦ under-in n xs (u .1) x t
+    ]
+
+-- numbers that were met
+known-in : (seen xs : List ℕ) → Known isSeen seen xs → (x : ℕ) → In x xs → In x seen
+known-in seen [] k x h = absurd (in-none x h)
+known-in seen (y ∷ xs) k x h = elim (in-front x y xs h) [
+  | here e ↦ rw e (any-in y seen (k .0))
+  | there t ↦ known-in seen xs (k .1) x t
+]
 
 -- with a node all that is below it is one
-pub parts-closed : (s : List Node) → Earlier s → (p : ℕ) → p < length s → (q a : ℕ) → In q (parts s p) → In a (below (getD s q noNode)) → In a (parts s p)
+pub parts-closed : (s : List Node) → Earlier s → (p : ℕ) → Inherited s (λ q. In q (parts s p))
 unfolding parts
-parts-closed s E p l q a h k = partsBelow-closed (suc p) s (p ∷ []) E (omega arith) q a h k
+parts-closed s E p =
+    rw (parts-walk s (suc p) (p ∷ []) [])
+    (once-induct (kidsIn s) isSeen addSeen seen-made any-snoc (λ n. n) (kids-fall s E)
+    (λ xs seen met. Inherited s (λ q. In q seen) → Inherited s (λ q. In q met))
+    (λ seen I. I)
+    (λ x seen k I. I)
+    (λ x seen met u k J I q a h b. in-left a met (x ∷ []) (elim (in-append q met (x ∷ []) h) [
+      | left l ↦ J I q a l b
+      | right r ↦ elim (in-front q x [] r) [ here e ↦ known-in met (kidsIn s x) k a (rw e at b) | there t ↦ absurd (in-none q t) ]
+    ]))
+    (λ x xs seen met all k l J K I. K (J I))
+    (suc p) (p ∷ []) [] (omega arith, tt) (λ q a h b. absurd (in-none q h)))
+
+-- what is met depends on the numbers' own nodes
+partsFrom-grows : (s t : List Node) → Earlier s → ((n : ℕ) → n < length s → getD t n noNode ≡ getD s n noNode) → (d : ℕ) (ps seen : List ℕ) → Below (length s) ps
+    → partsFrom d t ps seen ≡ partsFrom d s ps seen
+unfolding partsFrom
+partsFrom-grows s t E G zero [] seen b = refl
+partsFrom-grows s t E G zero (p ∷ ps) seen b = refl
+partsFrom-grows s t E G (suc d) [] seen b = refl
+partsFrom-grows s t E G (suc d) (p ∷ ps) seen b = elim (see (any (eqb p) seen)) [
+  | is true e ↦ rw (e, partsFrom) (partsFrom-grows s t E G (suc d) ps seen (b .1))
+  | is false e ↦
+      let ih = partsFrom-grows s t E G d (kidsIn s p) seen (kids-inside s E p (b .0)) in
+      let f : partsFrom d t (kidsIn t p) seen ≡ partsFrom d s (kidsIn s p) seen = ap (λ (n : Node). partsFrom d t (below n) seen) (G p (b .0)) ∙ ih in
+      rw (e, partsFrom) (ap (λ (l : List ℕ). partsFrom (suc d) t ps (addSeen p l)) f ∙ partsFrom-grows s t E G (suc d) ps (addSeen p (partsFrom d s (kidsIn s p) seen)) (b .1))
+]
+
+-- a pattern's parts stay where its store's nodes do
+pub parts-stay : (s t : List Node) (p : ℕ) → Earlier s → ((n : ℕ) → n < length s → getD t n noNode ≡ getD s n noNode) → p < length s → parts t p ≡ parts s p
+unfolding parts
+parts-stay s t p E G l = partsFrom-grows s t E G (suc p) (p ∷ []) [] (l, tt)

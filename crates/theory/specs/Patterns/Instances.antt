@@ -12,11 +12,10 @@ use Rattle.definition.specs.Store.{isVariable, below, termOf}
 use Rattle.definition.specs.Analysis.{parts}
 use Rattle.theory.specs.Derive.{SortedTree, SortedTrees, In, InstanceOf}
 use Rattle.theory.specs.Copies.Terms.{Earlier, termsAt, below-variable, below-applied, term-variable, term-applied}
-use Rattle.theory.specs.Copies.Parts.{here, there, in-front, in-none, in-here, in-there, in-below, parts-self, parts-upto, parts-closed}
+use Rattle.theory.specs.Copies.Parts.{here, there, in-front, in-none, in-here, in-there, in-below, Inherited, parts-inherit, parts-self, parts-upto, parts-closed, parts-stay}
 use Rattle.theory.specs.Patterns.Interned.{Grows, grows-at}
-use Rattle.theory.specs.Patterns.Inherit.{Inherited, parts-inherit, part-inherited, parts-grow}
 use Rattle.theory.specs.Copies.Copying.{numberAt}
-use Rattle.theory.specs.Patterns.Sorted.{SortedPattern, variable, application, SortedPatterns, none, more, variable-is, sorted-inside}
+use Rattle.theory.specs.Patterns.Sorted.{SortedPattern, variable, application, SortedPatterns, none, more, variable-is}
 use Rattle.theory.specs.Patterns.Resolved.{term-grows}
 
 -- the sort of a variable of a store
@@ -47,7 +46,7 @@ parts-agree : (s : List Node) → Earlier s → (ν μ : ℕ → Tree) (p : ℕ)
 parts-agree s E ν μ p l agree zero q b i = absurd (omega arith)
 parts-agree s E ν μ p l agree (suc m) q b i =
     let node = getD s q noNode in
-    let u = parts-upto s p q i in
+    let u = parts-upto s E p q i in
     let k : q < length s = omega arith in
     elim (see (isVariable node)) [
       | is true v ↦ turn-variable s E ν q k v ∙ agree q i v ∙ sym (turn-variable s E μ q k v)
@@ -55,7 +54,7 @@ parts-agree s E ν μ p l agree (suc m) q b i =
           let each : (a : ℕ) → In a (node .args) → turn ν (termOf s a) ≡ turn μ (termOf s a) =
           λ a j.
           let w = in-below q (node .args) (rw (below-applied node v) at (E q k)) a j in
-          parts-agree s E ν μ p l agree m a (omega arith) (parts-closed s E p l q a i (rw (below-applied node v) j)) in
+          parts-agree s E ν μ p l agree m a (omega arith) (parts-closed s E p q a i (rw (below-applied node v) j)) in
           turn-applied s E ν q k v ∙ ap (tree (node .head)) (turns-agree s ν μ (node .args) each) ∙ sym (turn-applied s E μ q k v)
     ]
 
@@ -86,7 +85,7 @@ module _ (P : Pack) (s : List Node) (sorts : ℕ → ℕ) (E : Earlier s) (ν : 
   -- trees of their sorts for the variables make a tree of the pattern's sort
   pub instance-sorted : (p so : ℕ) → SortedPattern P s sorts p so
       → ((q : ℕ) → In q (parts s p) → isVariable (getD s q noNode) ≡ true → SortedTree P (ν (numberAt s q)) (variableSort s q)) → SortedTree P (turn ν (termOf s p)) so
-  instance-sorted p so S fits = turn-sorted (λ q. In q (parts s p)) (part-inherited s E p (sorted-inside P s sorts p so S)) fits p so S (parts-self s p)
+  instance-sorted p so S fits = turn-sorted (λ q. In q (parts s p)) (parts-closed s E p) fits p so S (parts-self s p)
 
   -- a sorted pattern whose instance is of its sort
   record Turned (p : ℕ) : Type 0 where
@@ -133,25 +132,29 @@ module _ (P : Pack) (s : List Node) (sorts : ℕ → ℕ) (E : Earlier s) (ν : 
 pub instance-sort : (P : Pack) (s : List Node) (sorts : ℕ → ℕ) → Earlier s → (p so : ℕ) → SortedPattern P s sorts p so → (t : Tree) → InstanceOf P s p t → SortedTree P t so
 instance-sort P s sorts E p so S t N = let T = instance-sorted P s sorts E (N .assignment) p so S (N .sorted) in rw (N .is) at T
 
+-- a pattern's parts in a store that has grown
+parts-grow : (s t : List Node) (p : ℕ) → Earlier s → Grows s t → p < length s → parts t p ≡ parts s p
+parts-grow s t p E G l = parts-stay s t p E (λ n m. grows-at s t noNode n G m) l
+
 -- an instance is one in the store that has grown
-pub instance-grows : (P : Pack) (s t : List Node) (p : ℕ) (j : Tree) → Grows s t → p < length s → InstanceOf P s p j → InstanceOf P t p j
-instance-grows P s t p j G l N = record {
+pub instance-grows : (P : Pack) (s t : List Node) (p : ℕ) (j : Tree) → Earlier s → Grows s t → p < length s → InstanceOf P s p j → InstanceOf P t p j
+instance-grows P s t p j E G l N = record {
   assignment = N .assignment;
   sorted = λ q i v.
-      let k : In q (parts s p) = rw (parts-grow s t p G l) at i in
-      let u = parts-upto s p q k in
+      let k : In q (parts s p) = rw (parts-grow s t p E G l) at i in
+      let u = parts-upto s E p q k in
       let e = grows-at s t noNode q G (omega arith) in
       rw e (N .sorted q k (rw e at v));
   is = ap (turn (N .assignment)) (term-grows s t p G l) ∙ N .is;
 }
 
 -- and was one before
-pub instance-before : (P : Pack) (s t : List Node) (p : ℕ) (j : Tree) → Grows s t → p < length s → InstanceOf P t p j → InstanceOf P s p j
-instance-before P s t p j G l N = record {
+pub instance-before : (P : Pack) (s t : List Node) (p : ℕ) (j : Tree) → Earlier s → Grows s t → p < length s → InstanceOf P t p j → InstanceOf P s p j
+instance-before P s t p j E G l N = record {
   assignment = N .assignment;
   sorted = λ q i v.
-      let k : In q (parts t p) = rw (parts-grow s t p G l) i in
-      let u = parts-upto s p q i in
+      let k : In q (parts t p) = rw (parts-grow s t p E G l) i in
+      let u = parts-upto s E p q i in
       let e = grows-at s t noNode q G (omega arith) in
       rw e at (N .sorted q k (rw e v));
   is = sym (ap (turn (N .assignment)) (term-grows s t p G l)) ∙ N .is;

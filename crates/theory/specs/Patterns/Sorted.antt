@@ -12,9 +12,8 @@ use Rattle.definition.specs.Analysis.{parts}
 use Rattle.definition.specs.Laws.Store.{StoreOnce}
 use Rattle.theory.specs.Derive.{In}
 use Rattle.theory.specs.Copies.Terms.{Earlier, below-variable, below-applied}
-use Rattle.theory.specs.Copies.Parts.{here, there, in-front, in-none, in-here, in-there, parts-self}
+use Rattle.theory.specs.Copies.Parts.{here, there, in-front, in-none, in-here, in-there, Inherited, parts-inherit, parts-self, parts-closed}
 use Rattle.theory.specs.Patterns.Interned.{Grows, grows-long, grows-at}
-use Rattle.theory.specs.Patterns.Inherit.{Inherited, parts-inherit, part-inherited}
 use Rattle.theory.specs.Copies.Copying.{numberAt, patternSort}
 use Rattle.theory.specs.Copies.CopyNode.{PatternSorts, PartsFormed, OneEach}
 
@@ -135,4 +134,4 @@ module _ (P : Pack) (s : List Node) (sorts : ℕ → ℕ) where
   -- the variables' sorts may be others that agree on the pattern's own variables
   pub sorted-exchange : Earlier s → (sorts′ : ℕ → ℕ) (p so : ℕ) → SortedPattern P s sorts p so
       → ((q : ℕ) → In q (parts s p) → isVariable (getD s q noNode) ≡ true → sorts (numberAt s q) ≡ sorts′ (numberAt s q)) → SortedPattern P s sorts′ p so
-  sorted-exchange E sorts′ p so S agree = exchange sorts′ (λ q. In q (parts s p)) (part-inherited s E p (sorted-inside p so S)) agree p so S (parts-self s p)
+  sorted-exchange E sorts′ p so S agree = exchange sorts′ (λ q. In q (parts s p)) (parts-closed s E p) agree p so S (parts-self s p)

@@ -46,7 +46,7 @@ place-last n (m ∷ s) i e = elim (see (sameNode n m)) [
 ]
 
 -- the same in a store that has grown
-place-grown : (n : Node) (s t : List Node) (p : ℕ) → Grows s t → placeOf n s 0 ≡ some p → placeOf n t 0 ≡ some p
+pub place-grown : (n : Node) (s t : List Node) (p : ℕ) → Grows s t → placeOf n s 0 ≡ some p → placeOf n t 0 ≡ some p
 place-grown n s t p (with more q) e = ap (λ l. placeOf n l 0) q ∙ place-longer n s more 0 p e
 
 -- an interned node is found at its number

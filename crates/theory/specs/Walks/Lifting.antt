@@ -2,20 +2,18 @@
 use mathlib.Core.Path.{_≡_, refl, sym, ap, ap₂, _∙_, subst}
 use mathlib.Core.Bool.{Bool, true, false}
 use mathlib.Core.List.{List, [], _∷_, map}
-use mathlib.Core.Option.{none, some}
+use mathlib.Core.Option.{some}
 use Prim.Native.Nat.{ℕ, _<_}
 use native.Mathlib.Omega.{arith}
-use borrow.Author.Tests.{eqb-true, eq-eqb}
-use lib.Dec.{eqb, ltb}
+use lib.Dec.{ltb}
 use lib.ListN.{length, getD, List·getD-eq-default}
-use Rattle.definition.specs.Test.{is, see, never, tests}
+use Rattle.definition.specs.Test.{is, see, tests}
 use Rattle.definition.specs.Pack.{Node, Pack, noNode, nodeOf}
 use Rattle.definition.specs.Good.{Below, Good}
 use Rattle.definition.specs.Tree.{Tree, Trees, no-trees, tree-then, pick, trees, treeOf}
 use Rattle.definition.specs.Verdict.{Bound, valueOf}
 use Rattle.definition.specs.Store.{Stored, intern}
 use Rattle.definition.specs.Analysis.{StoredAll, copied, pairing, lift, liftAll}
-use Rattle.definition.specs.Classes.{isSome}
 use Rattle.definition.specs.Laws.Grow.{below-more}
 use Rattle.definition.specs.Laws.Tree.{args-below, tree-node}
 use Rattle.theory.specs.Patterns.Interned.{interned}
@@ -23,7 +21,8 @@ use Rattle.theory.specs.Walks.Walk.{Under, below-under, Known, walk, wal
 use Rattle.theory.specs.Walks.Machine.{Frame, turn, Stacked}
 use Rattle.theory.specs.Walks.WalkReady.{Sound, turn-going}
 use Rattle.theory.specs.Walks.Again.{stored, storedAll, headed, lift-again, lift-twice}
-use Rattle.theory.specs.Copies.Copying.{copied-is}
+use Rattle.theory.specs.Walks.Memo.{has, has-value, has-none, value-has, has-new, has-others}
+use Rattle.theory.specs.Copies.Copying.{valueOf-new, valueOf-old, newest, older, looked, copied-is, value-apart}
 
 -- the store, and what ground nodes were lifted to
 pub record Lifting : Type 0 where
@@ -40,8 +39,8 @@ argsOf P n = nodeOf P n .args
 
 -- whether a ground node was lifted
 unfoldable pub isLifted : Lifting → ℕ → Bool
-unfolding valueOf isSome
-isLifted s n = isSome (valueOf n (s .memo))
+unfolding has
+isLifted s n = has (s .memo) n
 
 -- a ground node over what its arguments were lifted to
 unfoldable pub over : Pack → List Bound → ℕ → Node
@@ -57,43 +56,15 @@ liftNode P n s = let p = intern (s .store) (over P (s .memo) n) in lifting (p .s
 abbrev pub Right : Pack → Lifting → Type 0
 Right P s = (n p : ℕ) → valueOf n (s .memo) ≡ some p → lift (treeOf P n) (s .store) ≡ stored p (s .store)
 
--- what was put into the memo is found
-value-new : (n p : ℕ) (m : List Bound) → valueOf n (pairing n p ∷ m) ≡ some p
-unfolding valueOf
-value-new n p m = rw (eq-eqb n n refl, valueOf)
-
--- other values stay
-value-old : (n x p : ℕ) (m : List Bound) → eqb n x ≡ false → valueOf x (pairing n p ∷ m) ≡ valueOf x m
-unfolding valueOf
-value-old n x p m e = rw (e, valueOf)
-
--- a lifted node has a value
-lifted-value : (s : Lifting) (n : ℕ) → isLifted s n ≡ true → valueOf n (s .memo) ≡ some (copied (s .memo) n)
-unfolding isLifted copied
-lifted-value s n e = elim (see (valueOf n (s .memo))) [
-  | is (some p) v ↦ v ∙ ap some (sym (copied-is (s .memo) n p v))
-  | is none v ↦ let q : false ≡ true = rw (v, isSome) at e in never (cc)
-]
-
--- a node with a value is lifted
-value-lifted : (s : Lifting) (n p : ℕ) → valueOf n (s .memo) ≡ some p → isLifted s n ≡ true
-unfolding isLifted
-value-lifted s n p e = rw (e, isSome)
-
 -- a node is lifted once it is put there
 pub lift-made : (P : Pack) (n : ℕ) (s : Lifting) → isLifted (liftNode P n s) n ≡ true
-unfolding liftNode
-lift-made P n s = let r = intern (s .store) (over P (s .memo) n) in value-lifted (liftNode P n s) n (r .number) (value-new n (r .number) (s .memo))
+unfolding liftNode isLifted
+lift-made P n s = has-new (s .memo) n (intern (s .store) (over P (s .memo) n) .number)
 
 -- and no other is
 pub lift-others : (P : Pack) (n x : ℕ) (s : Lifting) → (n ≡ x → ⊥) → isLifted (liftNode P n s) x ≡ isLifted s x
 unfolding liftNode isLifted
-lift-others P n x s h =
-    let r = intern (s .store) (over P (s .memo) n) in
-    elim (see (eqb n x)) [
-      | is true e ↦ absurd (h (eqb-true n x e))
-      | is false e ↦ ap isSome (value-old n x (r .number) (s .memo) e)
-    ]
+lift-others P n x s h = has-others (s .memo) n (intern (s .store) (over P (s .memo) n) .number) x h
 
 -- one ground term, and those after it
 lift-then : (t : Tree) (ts : Trees) (s s′ : List Node) (p : ℕ) → lift t s ≡ stored p s′ → liftAll (tree-then t ts) s ≡ storedAll (p ∷ liftAll ts s′ .numbers) (liftAll ts s′ .store)
@@ -133,11 +104,11 @@ module _ (P : Pack) (G : Good P) where
 
   -- to lift again what was lifted changes nothing
   right-all : (xs : List ℕ) (s : Lifting) → Right P s → Known isLifted s xs → liftAll (pick (trees P) xs) (s .store) ≡ storedAll (map (copied (s .memo)) xs) (s .store)
-  unfolding pick treeOf lift
+  unfolding pick treeOf lift isLifted
   right-all [] s r k = refl
   right-all (x ∷ xs) s r k =
       let p = copied (s .memo) x in
-      lift-then (treeOf P x) (pick (trees P) xs) (s .store) (s .store) p (r x p (lifted-value s x (k .0)))
+      lift-then (treeOf P x) (pick (trees P) xs) (s .store) (s .store) p (r x p (has-value (s .memo) x (k .0)))
       ∙ ap (λ (b : StoredAll). storedAll (p ∷ b .numbers) (b .store)) (right-all xs s r (k .1))
 
   -- a node over lifted arguments is what its tree is lifted to
@@ -153,17 +124,11 @@ module _ (P : Pack) (G : Good P) where
   right-node x s h k r n p j =
       let new = intern (s .store) (over P (s .memo) x) in
       let e : lift (treeOf P x) (s .store) ≡ new = lift-node x (s .store) (s .store) (s .memo) h (right-all (argsOf P x) s r k) in
-      elim (see (eqb x n)) [
-        | is true q ↦
-            let f : x ≡ n = eqb-true x n q in
+      elim (looked x (new .number) (s .memo) n p j) [
+        | newest i c ↦
             let twice : lift (treeOf P x) (new .store) ≡ new = rw e at (lift-twice (treeOf P x) (s .store)) in
-            let j′ : valueOf x (pairing x (new .number) ∷ s .memo) ≡ some p = ap (λ (y : ℕ). valueOf y (pairing x (new .number) ∷ s .memo)) f ∙ j in
-            let a : some (new .number) ≡ some p = sym (value-new x (new .number) (s .memo)) ∙ j′ in
-            let c : new .number ≡ p = cc in
-            ap (λ (y : ℕ). lift (treeOf P y) (new .store)) (sym f) ∙ twice ∙ ap (λ (y : ℕ). stored y (new .store)) c
-        | is false q ↦
-            let g = interned (s .store) (over P (s .memo) x) .grows in
-            lift-again (treeOf P n) (s .store) (new .store) p g (r n p (sym (value-old x n (new .number) (s .memo) q) ∙ j))
+            ap (λ (y : ℕ). lift (treeOf P y) (new .store)) i ∙ twice ∙ ap (λ (y : ℕ). stored y (new .store)) (sym c)
+        | older o ↦ lift-again (treeOf P n) (s .store) (new .store) p (interned (s .store) (over P (s .memo) x) .grows) (r n p o)
       ]
 
   -- a lifted node stays
@@ -172,35 +137,29 @@ module _ (P : Pack) (G : Good P) where
 
   -- a node whose arguments were walked is lifted
   walked-new : (x : ℕ) (s t : Lifting) → x < length (P .nodes) → isLifted s x ≡ false → Walked P (argsOf P x) s t → Walked P (x ∷ []) s (liftNode P x t)
-  unfolding pick treeOf lift liftNode
+  unfolding pick treeOf lift liftNode isLifted
   walked-new x s t h k w =
       let r = intern (t .store) (over P (t .memo) x) in
       let e : lift (treeOf P x) (s .store) ≡ r = lift-node x (s .store) (t .store) (t .memo) h (w .same) in
-      let v = value-new x (r .number) (t .memo) in
+      let v = valueOf-new x (r .number) (t .memo) in
       record {
         right = right-node x t h (w .knows) (w .right);
-        keeps = λ n p j. elim (see (eqb x n)) [
-          | is true q ↦
-              let f : x ≡ n = eqb-true x n q in
-              let a = value-lifted s x p (ap (λ (y : ℕ). valueOf y (s .memo)) f ∙ j) in
-              never (cc)
-          | is false q ↦ value-old x n (r .number) (t .memo) q ∙ w .keeps n p j
-        ];
+        keeps = λ n p j. valueOf-old x (r .number) (t .memo) n (value-apart (s .memo) n x p j (has-none (s .memo) x k)) ∙ w .keeps n p j;
         knows = (lift-made P x t, tt);
         same = lift-then (treeOf P x) no-trees (s .store) (r .store) (r .number) e ∙ ap (λ (y : ℕ). storedAll (y ∷ []) (r .store)) (sym (copied-is (pairing x (r .number) ∷ t .memo) x (r .number) v));
       }
 
   -- one node, then others
   walked-both : (x : ℕ) (xs : List ℕ) (s t u : Lifting) → Walked P (x ∷ []) s t → Walked P xs t u → Walked P (x ∷ xs) s u
-  unfolding pick treeOf lift
+  unfolding pick treeOf lift isLifted
   walked-both x xs s t u a b =
       let p = copied (t .memo) x in
-      let v = b .keeps x p (lifted-value t x (a .knows .0)) in
+      let v = b .keeps x p (has-value (t .memo) x (a .knows .0)) in
       let e : lift (treeOf P x) (s .store) ≡ stored p (t .store) = lift-one (treeOf P x) (s .store) (t .store) p (a .same) in
       record {
         right = b .right;
         keeps = λ n q j. b .keeps n q (a .keeps n q j);
-        knows = (value-lifted u x p v, b .knows);
+        knows = (value-has (u .memo) x p v, b .knows);
         same = lift-then (treeOf P x) (pick (trees P) xs) (s .store) (t .store) p e
             ∙ ap₂ (λ (y : ℕ) (r : StoredAll). storedAll (y ∷ r .numbers) (r .store)) (sym (copied-is (u .memo) x p v)) (b .same);
       }

@@ -176,3 +176,23 @@ module _ {S : Type 0} (kids : ℕ → List ℕ) (known : S → ℕ → Bool) (fi
             | is false k ↦ rw (k, visit) (new x s (walk d (kids x) s) k (walk-induct d (kids x) s (kids-under d x (u .0))))
           ] in
           both x xs s t (walk (suc d) xs t) first (walk-induct (suc d) xs t (u .1))
+
+-- an image of the state on which the same nodes are known, and that goes along with finishing: the walk's image is the image's walk
+pub walk-image : {S T : Type 0} (kids : ℕ → List ℕ) (known : S → ℕ → Bool) (finish : ℕ → S → S) (known′ : T → ℕ → Bool) (finish′ : ℕ → T → T) (image : S → T)
+    → ((s : S) (x : ℕ) → known′ (image s) x ≡ known s x) → ((x : ℕ) (s : S) → image (finish x s) ≡ finish′ x (image s))
+    → (d : ℕ) (xs : List ℕ) (s : S) → image (walk kids known finish d xs s) ≡ walk kids known′ finish′ d xs (image s)
+unfolding walk
+walk-image kids known finish known′ finish′ image same along zero [] s = refl
+walk-image kids known finish known′ finish′ image same along zero (x ∷ xs) s = refl
+walk-image kids known finish known′ finish′ image same along (suc d) [] s = refl
+walk-image {S} {T} kids known finish known′ finish′ image same along (suc d) (x ∷ xs) s =
+    let deeper : List ℕ → S → S = λ ys t. walk kids known finish d ys t in
+    let deeper′ : List ℕ → T → T = λ ys t. walk kids known′ finish′ d ys t in
+    let first : image (visit kids known finish deeper x s) ≡ visit kids known′ finish′ deeper′ x (image s) = elim (see (known s x)) [
+      | is true k ↦ let k′ = same s x ∙ k in rw (k, k′, visit)
+      | is false k ↦
+          let k′ = same s x ∙ k in
+          let ih = walk-image kids known finish known′ finish′ image same along d (kids x) s in
+          rw (k, k′, visit) (along x (deeper (kids x) s) ∙ ap (finish′ x) ih)
+    ] in
+    walk-image kids known finish known′ finish′ image same along (suc d) xs (visit kids known finish deeper x s) ∙ ap (walk kids known′ finish′ (suc d) xs) first
