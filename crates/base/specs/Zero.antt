@@ -6,7 +6,7 @@ use native.Mathlib.Numerals.{add-one}
 use native.Mathlib.Omega.{arith}
 use lib.ListN.{length, getD, take, drop, replicate, set, length-set, length-replicate, getD-replicate}
 use lib.Seq.{take-all, take-suc-set}
-use Rattle.base.specs.Part.{put, length-part, part-lent, length-put, put-at, put-lent}
+use Rattle.base.specs.Part.{put, length-part, part-lent, length-put, put-before, put-at, put-behind, put-lent}
 
 -- what stands before `from`, and zeros to the end
 unfoldable pub zeroed : ℕ → List ℕ → List ℕ
@@ -33,25 +33,32 @@ zeroed-all xs =
     let e : length xs - 0 ≡ length xs = omega arith in
     rw e
 
--- the first n words were lent, `&mut xs[0..n]`, and came back as zeros: nothing is longer or shorter, and there they stand
-module _ (n : ℕ) (xs zs : List ℕ) (l : n ≤ length xs) (z : zs ≡ replicate (length (take (n - 0) (drop 0 xs))) 0) where
-  as-lent : length (take (n - 0) (drop 0 xs)) ≡ n
-  as-lent = ap length (part-lent 0 n n xs (omega arith)) ∙ length-part 0 n xs (omega arith)
+-- words were lent, `&mut xs[a..e]`, and came back as zeros: nothing is longer or shorter, there they stand, and all else is as it was
+module _ (a e n : ℕ) (xs zs : List ℕ) (ends : e ≡ a + n) (l : e ≤ length xs) (z : zs ≡ replicate (length (take (e - a) (drop a xs))) 0) where
+  as-lent : length (take (e - a) (drop a xs)) ≡ n
+  as-lent = ap length (part-lent a e n xs ends) ∙ length-part a n xs (omega arith)
 
   as-many : length zs ≡ n
-  as-many = ap length z ∙ length-replicate (length (take (n - 0) (drop 0 xs))) 0 ∙ as-lent
+  as-many = ap length z ∙ length-replicate (length (take (e - a) (drop a xs))) 0 ∙ as-lent
 
-  as-put : put 0 (n - 0) zs xs ≡ put 0 n zs xs
-  as-put = put-lent 0 n n xs zs zs (omega arith) refl
+  abbrev zeros : List ℕ
+  zeros = put a (e - a) zs xs
 
-  pub zeros-long : length (put 0 (n - 0) zs xs) ≡ length xs
-  zeros-long = ap length as-put ∙ length-put 0 n xs (omega arith) zs as-many
+  as-put : zeros ≡ put a n zs xs
+  as-put = put-lent a e n xs zs zs ends refl
 
-  pub zeros-there : (k : ℕ) → k < n → getD (put 0 (n - 0) zs xs) k 0 ≡ 0
+  pub zeros-long : length zeros ≡ length xs
+  zeros-long = ap length as-put ∙ length-put a n xs (omega arith) zs as-many
+
+  pub zeros-there : (k : ℕ) → k < n → getD zeros (a + k) 0 ≡ 0
   zeros-there k h =
-      let first : k ≡ 0 + k = omega arith in
-      ap (λ (ys : List ℕ). getD ys k 0) as-put
-      ∙ ap (λ (j : ℕ). getD (put 0 n zs xs) j 0) first
-      ∙ put-at 0 n xs (omega arith) zs as-many k h
+      ap (λ (ys : List ℕ). getD ys (a + k) 0) as-put
+      ∙ put-at a n xs (omega arith) zs as-many k h
       ∙ ap (λ (ys : List ℕ). getD ys k 0) z
-      ∙ getD-replicate (length (take (n - 0) (drop 0 xs))) k 0 0 (omega (arith, as-lent, h))
+      ∙ getD-replicate (length (take (e - a) (drop a xs))) k 0 0 (omega (arith, as-lent, h))
+
+  pub zeros-before : (i : ℕ) → i < a → getD zeros i 0 ≡ getD xs i 0
+  zeros-before i h = ap (λ (ys : List ℕ). getD ys i 0) as-put ∙ put-before a n xs (omega arith) zs as-many i h
+
+  pub zeros-behind : (i : ℕ) → e ≤ i → getD zeros i 0 ≡ getD xs i 0
+  zeros-behind i h = ap (λ (ys : List ℕ). getD ys i 0) as-put ∙ put-behind a n xs (omega arith) zs as-many i (omega arith)

@@ -1,13 +1,14 @@
-// The test for circles: a walk along arguments, deepest first.
+// The test for circles: a walk along arguments, deepest first. The path stands where unification has its pairs, and behind it a word for
+// each node, its colour.
+use base::id::Node;
 use base::id::Pattern;
 use base::zero::zero_words;
 use graph::graph::Graph;
-ghost use mathlib.Core.Path.{_≡_};
-ghost use Prim.Native.Nat.{_+_, _*_, _<_, _≤_};
-ghost use lib.ListN.{length, getD};
+ghost use Prim.Native.Nat.{_+_, _<_, _≤_};
+ghost use lib.ListN.{length};
 ghost use Rattle.graph.specs.Cells.{Laid};
 ghost use Rattle.graph.specs.Unifies.{HoldsInner};
-ghost use Rattle.circle.specs.Circles.{Enters, Looking, Looks, Walking, Advances, Finishes, Idle, Walks, Tells};
+ghost use Rattle.circle.specs.Words.{coloursEnd, Entering, EntersIn, LookingIn, LooksIn, WalkingIn, AdvancesIn, FinishesIn, IdleIn, WalksIn, TellsIn};
 
 // What a walk knows of a node.
 pub struct Colour(pub u32);
@@ -35,75 +36,59 @@ enum Turn {
 }
 
 // Root `y` is put on the path of `top` nodes, which then has so many; a variable ends there and then.
-fn enter(
-    g: Graph,
-    cells: &[u32],
-    table: &[u32],
-    colour: &mut [u32],
-    path: &mut [u32],
-    top: usize,
-    y: usize,
-) -> usize
-    requires { ⌜ Laid (now cells) (now table) g × (y < g .nodes) × (g .nodes ≤ length (now colour)) × (2 * top + 2 ≤ length (now path)) ⌝ }
-    ensures { λ r. ⌜ Enters (now (cells .entry)) (now (table .entry)) (now (colour .entry)) (now (colour .exit)) (now (path .entry)) (now (path .exit)) g top y r ⌝ }
+fn enter(g: Graph, cells: &[u32], table: &mut [u32], top: usize, y: Node) -> usize
+    requires { ⌜ Entering (now cells) (now table) g top (y .0) ⌝ }
+    ensures { λ r. ⌜ EntersIn (now (cells .entry)) (now (table .entry)) (now (table .exit)) g top (y .0) r ⌝ }
 {
+    let n = cells.len();
+    let colours = 7 * n + 7;
+    let i = y.0 as usize;
     if g.head(cells, table, y) == Pattern::VAR {
-        colour[y] = Colour::DONE;
+        table[colours + i] = Colour::DONE;
         return top;
     }
-    colour[y] = Colour::OPEN;
-    path[2 * top] = y as u32;
-    path[2 * top + 1] = 0;
+    table[colours + i] = Colour::OPEN;
+    let at = 5 * n + 5 + 2 * top;
+    table[at] = y.0;
+    table[at + 1] = 0;
     top + 1
 }
 
 // Argument `i` of node `x`, on the path behind `top` others, is looked at.
-fn look(
-    g: Graph,
-    cells: &[u32],
-    table: &mut [u32],
-    colour: &mut [u32],
-    path: &mut [u32],
-    top: usize,
-    x: usize,
-    i: usize,
-) -> Seen
-    requires { ⌜ Looking (now cells) (now table) (now colour) (now path) g top x i ⌝ }
-    ensures { λ r. ⌜ Looks (now (cells .entry)) (now (table .entry)) (now (table .exit)) (now (colour .entry)) (now (colour .exit)) (now (path .entry)) (now (path .exit)) g top x i r ⌝ }
+fn look(g: Graph, cells: &[u32], table: &mut [u32], top: usize, x: Node, i: usize) -> Seen
+    requires { ⌜ LookingIn (now cells) (now table) g top (x .0) i ⌝ }
+    ensures { λ r. ⌜ LooksIn (now (cells .entry)) (now (table .entry)) (now (table .exit)) g top (x .0) i r ⌝ }
 {
-    let argument = g.argument(cells, table, x, i) as usize;
+    let argument = g.argument(cells, table, x, i);
     let y = g.find(cells, table, argument);
-    let seen = colour[y];
+    let n = cells.len();
+    let colours = 7 * n + 7;
+    let seen = table[colours + y.0 as usize];
     if seen == Colour::DONE {
         return Seen::Ends;
     }
     if seen != Colour::UNSEEN {
         return Seen::Circle;
     }
-    path[2 * top + 1] = i as u32 + 1;
-    if enter(g, cells, table, colour, path, top + 1, y) == top + 1 {
+    let at = 5 * n + 5 + 2 * top;
+    table[at + 1] = i as u32 + 1;
+    if enter(g, cells, table, top + 1, y) == top + 1 {
         return Seen::Ends;
     }
     Seen::Deeper
 }
 
 // The node on the path behind `top` others goes on with its arguments, to one that stands on top from then on or to its own end.
-fn advance(
-    g: Graph,
-    cells: &[u32],
-    table: &mut [u32],
-    colour: &mut [u32],
-    path: &mut [u32],
-    top: usize,
-) -> Turn
-    requires { ⌜ Walking (now cells) (now table) (now colour) (now path) g (top + 1) ⌝ }
-    ensures { λ r. ⌜ Advances (now (cells .entry)) (now (table .entry)) (now (table .exit)) (now (colour .entry)) (now (colour .exit)) (now (path .entry)) (now (path .exit)) g top r ⌝ }
+fn advance(g: Graph, cells: &[u32], table: &mut [u32], top: usize) -> Turn
+    requires { ⌜ WalkingIn (now cells) (now table) g (top + 1) ⌝ }
+    ensures { λ r. ⌜ AdvancesIn (now (cells .entry)) (now (table .entry)) (now (table .exit)) g top r ⌝ }
 {
-    let x = path[2 * top] as usize;
+    let at = 5 * cells.len() + 5 + 2 * top;
+    let x = Node(table[at]);
     let n = g.arity(cells, table, x);
-    let mut i = path[2 * top + 1] as usize;
+    let mut i = table[at + 1] as usize;
     while i < n {
-        match look(g, cells, table, colour, path, top, x, i) {
+        match look(g, cells, table, top, x, i) {
             Seen::Ends => {
                 i += 1;
             }
@@ -115,25 +100,19 @@ fn advance(
             }
         }
     }
-    colour[x] = Colour::DONE;
+    let colours = 7 * cells.len() + 7;
+    table[colours + x.0 as usize] = Colour::DONE;
     Turn::On(top)
 }
 
 // The nodes on the path are gone through, down to the last one; whether a circle is met.
-fn finish(
-    g: Graph,
-    cells: &[u32],
-    table: &mut [u32],
-    colour: &mut [u32],
-    path: &mut [u32],
-    start: usize,
-) -> bool
-    requires { ⌜ Walking (now cells) (now table) (now colour) (now path) g start ⌝ }
-    ensures { λ r. ⌜ Finishes (now (cells .entry)) (now (table .entry)) (now (table .exit)) (now (colour .entry)) (now (colour .exit)) (now (path .entry)) (now (path .exit)) g start r ⌝ }
+fn finish(g: Graph, cells: &[u32], table: &mut [u32], start: usize) -> bool
+    requires { ⌜ WalkingIn (now cells) (now table) g start ⌝ }
+    ensures { λ r. ⌜ FinishesIn (now (cells .entry)) (now (table .entry)) (now (table .exit)) g start r ⌝ }
 {
     let mut top = start;
     while 0 < top {
-        match advance(g, cells, table, colour, path, top - 1) {
+        match advance(g, cells, table, top - 1) {
             Turn::On(more) => {
                 top = more;
             }
@@ -146,41 +125,30 @@ fn finish(
 }
 
 // Whether a circle is met on the way from node `x`.
-fn walk(
-    g: Graph,
-    cells: &[u32],
-    table: &mut [u32],
-    colour: &mut [u32],
-    path: &mut [u32],
-    x: usize,
-) -> bool
-    requires { ⌜ Idle (now cells) (now table) (now colour) (now path) g × (x < g .nodes) ⌝ }
-    ensures { λ r. ⌜ Walks (now (cells .entry)) (now (table .entry)) (now (table .exit)) (now (colour .entry)) (now (colour .exit)) (now (path .entry)) (now (path .exit)) g x r ⌝ }
+fn walk(g: Graph, cells: &[u32], table: &mut [u32], x: Node) -> bool
+    requires { ⌜ IdleIn (now cells) (now table) g × (x .0 < g .nodes) ⌝ }
+    ensures { λ r. ⌜ WalksIn (now (cells .entry)) (now (table .entry)) (now (table .exit)) g (x .0) r ⌝ }
 {
     let root = g.find(cells, table, x);
-    if colour[root] != Colour::UNSEEN {
+    let colours = 7 * cells.len() + 7;
+    if table[colours + root.0 as usize] != Colour::UNSEEN {
         return false;
     }
-    let top = enter(g, cells, table, colour, path, 0, root);
-    finish(g, cells, table, colour, path, top)
+    let top = enter(g, cells, table, 0, root);
+    finish(g, cells, table, top)
 }
 
 // Whether some node is a part of its own term.
-pub fn circular(
-    g: Graph,
-    cells: &[u32],
-    table: &mut [u32],
-    colour: &mut [u32],
-    path: &mut [u32],
-) -> bool
-    requires { ⌜ HoldsInner (now cells) (now table) g × (g .nodes ≤ length (now colour)) × (2 * length (now cells) + 2 ≤ length (now path)) ⌝ }
-    ensures { λ r. ⌜ Tells (now (cells .entry)) (now (table .entry)) (now (table .exit)) g r ⌝ }
+pub fn circular(g: Graph, cells: &[u32], table: &mut [u32]) -> bool
+    requires { ⌜ HoldsInner (now cells) (now table) g × (coloursEnd (now cells) ≤ length (now table)) ⌝ }
+    ensures { λ r. ⌜ TellsIn (now (cells .entry)) (now (table .entry)) (now (table .exit)) g r ⌝ }
 {
     let n = g.nodes;
-    zero_words(&mut colour[0..n]);
+    let colours = 7 * cells.len() + 7;
+    zero_words(&mut table[colours..colours + n]);
     let mut x: usize = 0;
     while x < n {
-        if walk(g, cells, table, colour, path, x) {
+        if walk(g, cells, table, Node(x as u32)) {
             return true;
         }
         x += 1;

@@ -165,10 +165,10 @@ at-first P Q r stack vals s R slots n zeros vars-are z =
     record {
       base = R .base;
       room = R .room;
-      slots = zeros-long n vals zeros few z ∙ slots;
+      slots = zeros-long 0 n n vals zeros (omega arith) few z ∙ slots;
       pending = R .pending;
       below = R .below;
-      values = λ k h. sym (ap valueIn (zeros-there n vals zeros few z k (omega (arith, vars-are, h))));
+      values = λ k h. sym (ap valueIn (zeros-there 0 n n vals zeros (omega arith) few z k (omega (arith, vars-are, h))));
     }
 
 -- a step's rule is to be matched against the judgments of its refs and its own

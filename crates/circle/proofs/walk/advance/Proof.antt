@@ -1,53 +1,53 @@
--- `advance` meets its contract: with each argument one more of them ends.
+-- `advance` meets its contract: with each turn one argument more ends.
 use borrow.Author.Needs.{needs}
-use mathlib.Core.Path.{_≡_, refl, _∙_}
-use Prim.Native.Nat.{_-_, _<_}
+use mathlib.Core.Path.{_≡_, _∙_}
+use Prim.Native.Nat.{_+_, _*_, _-_}
 use native.Mathlib.Omega.{arith}
 use lib.ListN.{length, length-set}
-use Rattle.circle.specs.Circles.{Steppings, stepping-first, stepping-ready, stepping-ends, stepping-deeper, stepping-circle, stepping-done, walking-here, walking-laid, walking-node, walking-long, walking-room, walking-small, walking-few}
+use Rattle.graph.specs.Cells.{rowsEnd, unchanged-same, unchanged-then}
+use Rattle.circle.specs.Circles.{Steppings, stepping-ready, stepping-ends, stepping-deeper, stepping-circle, walking-here, walking-laid}
+use Rattle.circle.specs.Words.{coloursEnd, pathIn, colourIn, Beyond}
+use Rattle.circle.specs.Turns.{walking-low, node-there, node-inside, advance-first, advance-done}
 use Rattle.circle.proofs.walk.advance.Statement.{statement}
 use Rattle.circle.proofs.walk.advance.Tie as tie
 
 abbrev Inv-loop : tie.InvT-loop
-Inv-loop g cells table₀ colour₀ path₀ top x n i₀ table colour path i = (length table ≡ length table₀) × (length colour ≡ length colour₀) × (length path ≡ length path₀) × (x < g .nodes) × Steppings cells table₀ table colour₀ colour path₀ path g top x n i
+Inv-loop g cells table₀ top at x n i₀ table i = Beyond cells table₀ table × Steppings cells table₀ table (colourIn cells table₀) (colourIn cells table) (pathIn cells table₀) (pathIn cells table) g top (x .0) n i
 
 abbrev μ-loop : tie.MeasureT-loop
-μ-loop g cells table₀ colour₀ path₀ top x n i₀ table colour path i = n - i
+μ-loop g cells table₀ top at x n i₀ table i = n - i
 
 arity-requires : tie.Need-arity-requires Inv-loop μ-loop
-arity-requires c κs = let H = c .before .before .before .before .before .before .pre in (walking-laid _ _ _ _ _ _ H, walking-node _ _ _ _ _ _ H)
+arity-requires c κs = let H = c .before .before .before .before .pre in (walking-laid _ _ _ _ _ _ (H .0), node-there _ _ _ _ H)
 
 loop-holds : tie.Need-loop-holds Inv-loop μ-loop
-loop-holds c = (refl, refl, refl, walking-node _ _ _ _ _ _ (c .before .before .before .before .before .before .before .before .pre), stepping-first _ _ _ _ _ _ _ (c .before .arity .ensures))
+loop-holds c = (unchanged-same _ _, advance-first _ _ _ _ (c .before .before .before .before .before .before .pre) _ (c .before .arity .ensures))
 
 look-requires : tie.Need-look-requires Inv-loop μ-loop
-look-requires c κs = stepping-ready _ _ _ _ _ _ _ _ _ _ _ _ (c .before .before .before .before .loop .inv .4) (walking-here _ _ _ _ _ _ (c .before .before .before .before .before .before .before .before .before .before .before .before .before .pre)) (c .before .before .before .loop-test .taken)
+look-requires c κs = let v = c .before .before .loop .inv in let H = c .before .before .before .before .before .before .before .before .before .pre in
+    (stepping-ready _ _ _ _ _ _ _ _ _ _ _ _ (v .1) (walking-here _ _ _ _ _ _ (H .0)) (c .before .loop-test .taken), omega (arith, H .1, v .0 .long))
 
 loop-again : tie.Need-loop-again Inv-loop μ-loop
 loop-again c =
-    let k = c .before .before .before .before .before .before .before .before .look .kept in
-    let v = c .before .before .before .before .before .before .before .before .before .before .before .before .before .loop .inv in (
-      k .1 .1 .0 ∙ v .0,
-      k .1 .1 .1 .0 ∙ v .1,
-      k .1 .1 .1 .1 .0 ∙ v .2,
-      v .3,
-      stepping-ends _ _ _ _ _ _ _ _ _ _ _ _ (v .4) _ _ _ (c .before .before .before .before .before .before .before .before .before .before .before .before .loop-test .taken) (rw (c .enum-told .given .1) at (c .before .before .before .before .before .before .before .before .look .ensures)),
-    )
-
-add-t26 : tie.Need-add-t26 Inv-loop μ-loop
-add-t26 c = omega (arith, walking-room _ _ _ _ _ _ (c .before .before .before .before .before .before .before .before .before .before .before .before .before .before .before .before .before .before .before .before .before .before .pre))
+    let v = c .before .before .before .before .before .before .before .loop .inv in
+    let m = rw (c .enum-told .given .1) at (c .before .before .before .before .look .ensures) in
+    (unchanged-then _ _ _ _ (v .0) (m .1), stepping-ends _ _ _ _ _ _ _ _ _ _ _ _ (v .1) _ _ _ (c .before .before .before .before .before .before .loop-test .taken) (m .0))
 
 returns : tie.Need-returns Inv-loop μ-loop
-returns c = stepping-deeper _ _ _ _ _ _ _ _ _ _ _ _ (c .before .before .before .before .before .before .before .before .before .before .before .before .before .loop .inv .4) _ _ _ (c .before .before .before .before .before .before .before .before .before .before .before .before .loop-test .taken) (rw (c .enum-told2 .given .1) at (c .before .before .before .before .before .before .before .before .look .ensures))
+returns c =
+    let v = c .before .before .before .before .before .before .before .loop .inv in
+    let m = rw (c .enum-told2 .given .1) at (c .before .before .before .before .look .ensures) in
+    (stepping-deeper _ _ _ _ _ _ _ _ _ _ _ _ (v .1) _ _ _ (c .before .before .before .before .before .before .loop-test .taken) (m .0), unchanged-then _ _ _ _ (v .0) (m .1))
 
 returns-2 : tie.Need-returns-2 Inv-loop μ-loop
-returns-2 c = stepping-circle _ _ _ _ _ _ _ _ _ _ _ _ (c .before .before .before .before .before .before .before .before .before .before .before .before .before .loop .inv .4) _ (c .before .before .before .before .before .before .before .before .look .last .1 .1 .1 .0) (c .before .before .before .before .before .before .before .before .look .last .1 .1 .1 .1 .0) (c .before .before .before .before .before .before .before .before .before .before .before .before .loop-test .taken) (rw (c .enum-told3 .given .1) at (c .before .before .before .before .before .before .before .before .look .ensures))
-
-slice-write-colour : tie.Need-slice-write-colour Inv-loop μ-loop
-slice-write-colour c = omega (arith, c .before .loop .inv .1, c .before .loop .inv .3, walking-long _ _ _ _ _ _ (c .before .before .before .before .before .before .before .before .before .before .pre))
+returns-2 c =
+    let v = c .before .before .before .before .before .before .before .loop .inv in
+    let t = c .before .before .before .before .look .last .1 .1 .0 in
+    let m = rw (c .enum-told3 .given .1) at (c .before .before .before .before .look .ensures) in
+    (stepping-circle _ _ _ _ _ _ _ _ _ _ _ _ (v .1) t (colourIn (c .before .before .before .before .before .before .before .before .before .before .before .before .before .before .args .cells .now) t) (pathIn (c .before .before .before .before .before .before .before .before .before .before .before .before .before .before .args .cells .now) t) (c .before .before .before .before .before .before .loop-test .taken) (m .0), unchanged-then _ _ _ _ (v .0) (m .1))
 
 returns-3 : tie.Need-returns-3 Inv-loop μ-loop
-returns-3 c = stepping-done _ _ _ _ _ _ _ _ _ _ _ _ (c .before .loop .inv .4) (omega (arith, c .loop-test .left))
+returns-3 c = advance-done _ _ _ _ _ _ _ _ (node-inside _ _ _ _ (c .before .before .before .before .before .before .before .before .before .pre)) (c .before .before .loop .inv .1) (c .before .before .loop .inv .0) (c .before .loop-test .left)
 
 pub advance-spec : {M : Type 1} → statement M
 advance-spec =
@@ -55,36 +55,35 @@ advance-spec =
     (tie.spec
     Inv-loop
     μ-loop
-    (λ c. omega (arith, walking-room _ _ _ _ _ _ (c .before .before .before .before .pre)))
-    (λ c. omega (arith, walking-room _ _ _ _ _ _ (c .before .before .before .before .pre)))
-    (λ c. omega (arith, walking-room _ _ _ _ _ _ (c .before .before .before .before .before .pre)))
-    (λ c. omega (arith, walking-small _ _ _ _ _ _ (c .before .before .before .before .before .pre) .0))
+    (λ c. omega (arith, walking-low _ _ _ _ (c .before .before .pre), walking-laid _ _ _ _ _ _ (c .before .before .pre .0) .small))
+    (λ c. omega (arith, walking-low _ _ _ _ (c .before .before .pre), walking-laid _ _ _ _ _ _ (c .before .before .pre .0) .small))
+    (λ c. omega (arith, walking-low _ _ _ _ (c .before .before .pre), walking-laid _ _ _ _ _ _ (c .before .before .pre .0) .small))
+    (λ c. omega (arith, walking-low _ _ _ _ (c .before .before .pre), walking-laid _ _ _ _ _ _ (c .before .before .pre .0) .small))
+    (λ c. omega (arith, walking-low _ _ _ _ (c .before .before .pre), walking-laid _ _ _ _ _ _ (c .before .before .pre .0) .small))
+    (λ c. omega (arith, walking-low _ _ _ _ (c .before .before .before .pre), c .before .before .before .pre .1))
     arity-requires
-    (λ c. omega (arith, walking-room _ _ _ _ _ _ (c .before .before .before .before .before .before .before .pre)))
-    (λ c. omega (arith, walking-room _ _ _ _ _ _ (c .before .before .before .before .before .before .before .pre)))
-    (λ c. omega (arith, walking-room _ _ _ _ _ _ (c .before .before .before .before .before .before .before .pre)))
-    (λ c. omega (arith, walking-room _ _ _ _ _ _ (c .before .before .before .before .before .before .before .before .pre)))
-    (λ c. omega (arith, walking-small _ _ _ _ _ _ (c .before .before .before .before .before .before .before .before .pre) .1))
+    (λ c. omega (arith, walking-low _ _ _ _ (c .before .before .before .before .before .pre), walking-laid _ _ _ _ _ _ (c .before .before .before .before .before .pre .0) .small))
+    (λ c. omega (arith, walking-low _ _ _ _ (c .before .before .before .before .before .pre), walking-laid _ _ _ _ _ _ (c .before .before .before .before .before .pre .0) .small))
+    (λ c. omega (arith, walking-low _ _ _ _ (c .before .before .before .before .before .before .pre), c .before .before .before .before .before .before .pre .1))
+    (λ c. omega (arith, c .slice-known3 .given (rowsEnd (c .before .before .before .before .before .before .args .cells .now) + 2 * c .before .before .before .before .before .before .args .top + 1)))
     loop-holds
     look-requires
     (λ c. search needs)
     (λ c. search needs)
-    (λ c. omega (arith, c .before .before .before .before .before .before .before .before .before .before .before .before .loop-test .taken))
+    (λ c. omega (arith, c .before .before .before .before .before .before .loop-test .taken))
     loop-again
     (λ c. search needs)
-    add-t26
-    (λ c. c .before .before .before .before .before .before .before .before .look .kept .1 .1 .0 ∙ c .before .before .before .before .before .before .before .before .before .before .before .before .before .loop .inv .0)
-    (λ c. c .before .before .before .before .before .before .before .before .look .kept .1 .1 .1 .0 ∙ c .before .before .before .before .before .before .before .before .before .before .before .before .before .loop .inv .1)
-    (λ c. c .before .before .before .before .before .before .before .before .look .kept .1 .1 .1 .1 .0 ∙ c .before .before .before .before .before .before .before .before .before .before .before .before .before .loop .inv .2)
+    (λ c. omega (arith, walking-low _ _ _ _ (c .before .before .before .before .before .before .before .before .before .before .before .before .before .before .pre), walking-laid _ _ _ _ _ _ (c .before .before .before .before .before .before .before .before .before .before .before .before .before .before .pre .0) .small))
+    (λ c. c .before .before .before .before .look .kept .1 .1 .0 ∙ c .before .before .before .before .before .before .before .loop .inv .0 .long)
     returns
     (λ c. search needs)
-    (λ c. c .before .before .before .before .before .before .before .before .look .kept .1 .1 .0 ∙ c .before .before .before .before .before .before .before .before .before .before .before .before .before .loop .inv .0)
-    (λ c. c .before .before .before .before .before .before .before .before .look .kept .1 .1 .1 .0 ∙ c .before .before .before .before .before .before .before .before .before .before .before .before .before .loop .inv .1)
-    (λ c. c .before .before .before .before .before .before .before .before .look .kept .1 .1 .1 .1 .0 ∙ c .before .before .before .before .before .before .before .before .before .before .before .before .before .loop .inv .2)
+    (λ c. c .before .before .before .before .look .kept .1 .1 .0 ∙ c .before .before .before .before .before .before .before .loop .inv .0 .long)
     returns-2
-    (λ c. omega (arith, c .before .loop .inv .3, walking-few _ _ _ _ _ _ (c .before .before .before .before .before .before .before .before .before .before .pre)))
-    slice-write-colour
-    (λ c. c .before .loop .inv .0)
-    (λ c. length-set (c .before .loop .colour) _ _ ∙ c .before .loop .inv .1)
-    (λ c. c .before .loop .inv .2)
+    (λ c. omega (arith, walking-laid _ _ _ _ _ _ (c .before .before .before .before .before .before .before .before .pre .0) .small))
+    (λ c. omega (arith, walking-laid _ _ _ _ _ _ (c .before .before .before .before .before .before .before .before .pre .0) .small))
+    (λ c. search needs)
+    (λ c. omega (arith, node-inside _ _ _ _ (c .before .before .before .before .before .before .before .before .before .pre), walking-laid _ _ _ _ _ _ (c .before .before .before .before .before .before .before .before .before .pre .0) .small))
+    (λ c. omega (arith, node-inside _ _ _ _ (c .before .before .before .before .before .before .before .before .before .pre), walking-laid _ _ _ _ _ _ (c .before .before .before .before .before .before .before .before .before .pre .0) .small))
+    (λ c. omega (arith, node-inside _ _ _ _ (c .before .before .before .before .before .before .before .before .before .pre), c .before .before .before .before .before .before .before .before .before .pre .1, c .before .before .loop .inv .0 .long))
+    (λ c. length-set (c .before .before .loop .table) _ _ ∙ c .before .before .loop .inv .0 .long)
     returns-3)

@@ -2,38 +2,42 @@
 use borrow.Author.Needs.{needs}
 use native.Mathlib.Omega.{arith}
 use lib.ListN.{length-set}
-use Rattle.graph.specs.Cells.{nodes-few}
 use Rattle.graph.specs.Joins.{head-variable, head-other}
-use Rattle.circle.specs.Circles.{enters-variable, enters-application}
+use Rattle.circle.specs.Words.{enters-variable-in, enters-application-in}
 use Rattle.circle.proofs.walk.enter.Statement.{statement}
 use Rattle.circle.proofs.walk.enter.Tie as tie
 
 returns : tie.Need-returns
-returns c = enters-variable _ _ _ _ _ _ _ (λ g S. head-variable g _ (c .before .head .result) (c .before .head .ensures g S) (c .if1 .taken))
+returns c = enters-variable-in _ _ _ _ _ (c .before .before .before .before .before .before .pre) (λ g S. head-variable g _ (c .before .head .result) (c .before .head .ensures g S) (c .if1 .taken))
 
 returns-2 : tie.Need-returns-2
-returns-2 c = enters-application _ _ _ _ _ _ _ (λ g S. head-other g _ (c .before .head .result) (c .before .head .ensures g S) (c .if1 .left))
+returns-2 c = enters-application-in _ _ _ _ _ (c .before .before .before .before .before .before .pre) (λ g S. head-other g _ (c .before .head .result) (c .before .head .ensures g S) (c .if1 .left))
 
 pub enter-spec : {M : Type 1} → statement M
 enter-spec =
     tie.close
     (tie.spec
-    (λ c κs. search needs)
+    (λ c. let N = c .before .before .pre in omega (arith, N .laid .small, N .inside, N .path, N .room))
+    (λ c. let N = c .before .before .pre in omega (arith, N .laid .small, N .inside, N .path, N .room))
     (λ c. search needs)
-    (λ c. search needs)
+    (λ c κs. (c .before .before .before .before .pre .laid, c .before .before .before .before .pre .node))
+    (λ c. let N = c .before .before .before .before .before .before .pre in omega (arith, N .laid .small, N .inside, N .path, N .room))
+    (λ c. let N = c .before .before .before .before .before .before .pre in omega (arith, N .laid .small, N .inside, N .path, N .room))
+    (λ c. let N = c .before .before .before .before .before .before .pre in omega (arith, N .laid .small, N .inside, N .path, N .room))
     (λ c. search needs)
     returns
-    (λ c. search needs)
-    (λ c. search needs)
-    (λ c. let p = c .before .before .before .before .before .before .pre in let n = nodes-few _ _ _ (p .0) in omega (arith, p .1, p .0 .fits, p .0 .small))
-    (λ c. search needs)
-    (λ c. search needs)
-    (λ c. search needs)
-    (λ c. search needs)
-    (λ c. search needs)
-    (λ c. search needs)
-    (λ c. simp length-set (omega (arith, c .before .before .before .before .before .before .pre .3)))
-    (λ c. search needs)
-    (λ c. search needs)
-    (λ c. search needs)
+    (λ c. let N = c .before .before .before .before .before .before .pre in omega (arith, N .laid .small, N .inside, N .path, N .room))
+    (λ c. let N = c .before .before .before .before .before .before .pre in omega (arith, N .laid .small, N .inside, N .path, N .room))
+    (λ c. let N = c .before .before .before .before .before .before .pre in omega (arith, N .laid .small, N .inside, N .path, N .room))
+    (λ c. let N = c .before .before .before .before .before .before .pre in omega (arith, N .laid .small, N .inside, N .path, N .room))
+    (λ c. let N = c .before .before .before .before .before .before .pre in omega (arith, N .laid .small, N .inside, N .path, N .room))
+    (λ c. let N = c .before .before .before .before .before .before .pre in omega (arith, N .laid .small, N .inside, N .path, N .room))
+    (λ c. let N = c .before .before .before .before .before .before .pre in omega (arith, N .laid .small, N .inside, N .path, N .room))
+    (λ c. let N = c .before .before .before .before .before .before .pre in omega (arith, N .laid .small, N .inside, N .path, N .room))
+    (λ c. let N = c .before .before .before .before .before .before .pre in simp length-set (omega (arith, N .laid .small, N .inside, N .path, N .room)))
+    (λ c. let N = c .before .before .before .before .before .before .pre in omega (arith, N .laid .small, N .inside, N .path, N .room))
+    (λ c. let N = c .before .before .before .before .before .before .pre in omega (arith, N .laid .small, N .inside, N .path, N .room))
+    (λ c. let N = c .before .before .before .before .before .before .pre in simp length-set (omega (arith, N .laid .small, N .inside, N .path, N .room)))
+    (λ c. let N = c .before .before .before .before .before .before .pre in omega (arith, N .laid .small, N .inside, N .path, N .room))
+    (λ c. simp length-set (search needs))
     returns-2)
