@@ -69,7 +69,7 @@ pub record GrownAll : Type 0 where
   pub ats : List ℕ
   pub graph : Graph
 
--- a rule's term in the graph: a node for each application written, none for its variables
+-- a rule's term in the graph: a node for each application written, none for its variables; the last argument first
 unfoldable mutual
   unfolding push
 
@@ -80,9 +80,9 @@ unfoldable mutual
   pub instantiateAll : Terms → List ℕ → Graph → GrownAll
   instantiateAll nil env g = record { ats = []; graph = g }
   instantiateAll (cons t ts) env g =
-      let first = instantiate t env g in
-      let rest = instantiateAll ts env (first .graph) in
-      record { ats = first .at ∷ rest .ats; graph = rest .graph }
+      let rest = instantiateAll ts env g in
+      let first = instantiate t env (rest .graph) in
+      record { ats = first .at ∷ rest .ats; graph = first .graph }
 
 -- patterns' numbers, and the store that has them
 pub record StoredAll : Type 0 where

@@ -14,7 +14,7 @@ use Rattle.definition.specs.Laws.Grow.{below-more}
 use Rattle.definition.specs.Graph.{Vertex, Graph, Grown, applied, push, isVar}
 use Rattle.definition.specs.Analysis.{GrownAll, instantiate, instantiateAll}
 use Rattle.theory.specs.Unification.Solve.{treesAt, Solves, sortAt, SortsAt, Formed, Begins}
-use Rattle.theory.specs.Copies.Begin.{begins-refl, begins-trans, solves-begins, sortAt-begins}
+use Rattle.theory.specs.Copies.Begin.{begins-refl, begins-trans, solves-begins, sortAt-begins, SortsAt-begins}
 use Rattle.theory.specs.Copies.Push.{push-length, push-begins, push-new, push-formed, push-sort-applied, push-extends, NewNode, new-applied, Extends, extends-trans}
 
 -- an element of numbers below n
@@ -88,18 +88,18 @@ applied-says P few env h ts s g r l o R =
           extends-trans θ g k (push k v .graph) (R .begins) e (push-extends P k v (e .solution) (R .formed) node (e .solves));
     }
 
--- a first node and the others
-cons-says : (P : Pack) (env : List ℕ) (t : Term) (ts : Terms) (s : ℕ) (ss : List ℕ) (g : Graph) (r : Grown) (rs : GrownAll)
-    → Instantiated P env t s g r → InstantiatedAll P env ts ss (r .graph) rs
-    → InstantiatedAll P env (cons t ts) (s ∷ ss) g (record { ats = r .at ∷ rs .ats; graph = rs .graph })
+-- the other nodes, and a first one
+cons-says : (P : Pack) (env : List ℕ) (t : Term) (ts : Terms) (s : ℕ) (ss : List ℕ) (g : Graph) (rs : GrownAll) (r : Grown)
+    → InstantiatedAll P env ts ss g rs → Instantiated P env t s (rs .graph) r
+    → InstantiatedAll P env (cons t ts) (s ∷ ss) g (record { ats = r .at ∷ rs .ats; graph = r .graph })
 unfolding turn treesAt
-cons-says P env t ts s ss g r rs R Rs = record {
-  begins = begins-trans g (r .graph) (rs .graph) (R .begins) (Rs .begins);
-  inside = (omega (arith, R .inside, Rs .begins .longer), Rs .inside);
-  formed = Rs .formed;
-  sorts = (sortAt-begins P (r .graph) (rs .graph) (Rs .begins) (r .at) (R .inside) ∙ R .sort, Rs .sorts);
-  are = λ θ S. ap₂ tree-then (R .is θ (solves-begins θ (r .graph) (rs .graph) (Rs .begins) S)) (Rs .are θ S);
-  extends = λ θ S. let e = R .extends θ S in extends-trans θ g (r .graph) (rs .graph) (R .begins) e (Rs .extends (e .solution) (e .solves));
+cons-says P env t ts s ss g rs r Rs R = record {
+  begins = begins-trans g (rs .graph) (r .graph) (Rs .begins) (R .begins);
+  inside = (R .inside, below-more (length (rs .graph)) (length (r .graph)) (rs .ats) (R .begins .longer) (Rs .inside));
+  formed = R .formed;
+  sorts = (R .sort, SortsAt-begins P (rs .graph) (r .graph) (R .begins) (rs .ats) ss (Rs .inside) (Rs .sorts));
+  are = λ θ S. ap₂ tree-then (R .is θ S) (Rs .are θ (solves-begins θ (rs .graph) (r .graph) (R .begins) S));
+  extends = λ θ S. let e = Rs .extends θ S in extends-trans θ g (rs .graph) (r .graph) (Rs .begins) e (R .extends (e .solution) (e .solves));
 }
 
 -- a well-sorted term in a graph, and terms
@@ -126,7 +126,7 @@ mutual
   instantiated-all P few vars env nil (s ∷ ss) g f E h = absurd h
   instantiated-all P few vars env (cons t ts) [] g f E h = absurd h
   instantiated-all P few vars env (cons t ts) (s ∷ ss) g f E h =
-      let r = instantiate t env g in
-      let R = instantiated P few vars env t s g f E (h .0) in
-      let Rs = instantiated-all P few vars env ts ss (r .graph) (R .formed) (environment-begins P vars env g (r .graph) (R .begins) E) (h .1) in
-      cons-says P env t ts s ss g r (instantiateAll ts env (r .graph)) R Rs
+      let rs = instantiateAll ts env g in
+      let Rs = instantiated-all P few vars env ts ss g f E (h .1) in
+      let R = instantiated P few vars env t s (rs .graph) (Rs .formed) (environment-begins P vars env g (rs .graph) (Rs .begins) E) (h .0) in
+      cons-says P env t ts s ss g rs (instantiate t env (rs .graph)) Rs R
