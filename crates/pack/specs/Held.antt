@@ -54,7 +54,7 @@ module _ (bytes work work′ : List ℕ) (c : Catalog) (S : Same work work′ c)
   pub reads-back : (P : Pack) → Reads bytes (recordsOf work′ c) P → Reads bytes (recordsOf work c) P
   reads-back P R = reads-same bytes (recordsOf work′ c) (recordsOf work c) P (λ k h. sym (same-records work work′ c S (C .fits) k h)) R
 
-pub held-on : (bytes work work′ : List ℕ) (c : Catalog) → Same work work′ c → Held bytes work c → Held bytes work′ c
+abbrev pub held-on : (bytes work work′ : List ℕ) (c : Catalog) → Same work work′ c → Held bytes work c → Held bytes work′ c
 held-on bytes work work′ c S H = record {
   cataloged = same-cataloged bytes work work′ c S (H .cataloged);
   pack = H .pack;

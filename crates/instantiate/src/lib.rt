@@ -1,0 +1,2 @@
+// A rule's terms in the term graph.
+pub mod terms;

@@ -1,0 +1,8 @@
+-- Ground nodes lifted into the store: what the words say, and what each turn of the walk leaves of it.
+pub mod Lifts
+pub mod Alike
+pub mod Memo
+pub mod Keys
+pub mod Nodes
+pub mod Turns
+pub mod Runs
