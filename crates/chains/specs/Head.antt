@@ -10,28 +10,16 @@ use Rattle.definition.specs.Certificate.{count}
 use Rattle.definition.specs.Theory.{variable}
 use Rattle.definition.specs.Good.{Below, Sorted}
 use Rattle.definition.specs.Laws.Prefix.{termWords, termsWords}
+use Rattle.definition.specs.Laws.Grow.{below-at}
+use Rattle.definition.specs.Laws.Suffix.{term-some, judgments-sorted}
 use Rattle.pack.specs.Reads.{ruleWords}
 use Rattle.pack.specs.Held.{Proper}
-use Rattle.verdict.specs.Words.{judgments-sorted}
-use Rattle.verdict.specs.Pushed.{below-at}
-use Rattle.verdict.specs.Pending.{term-some, Pending, pending-most, pending-none, word-there, next-variable, next-symbol}
-use Rattle.verdict.specs.Turns.{words-most}
+use Rattle.pack.specs.Spelt.{Spelt}
 
 -- the symbol on top of a term; a variable has none
 unfoldable pub topOf : Term → ℕ
 topOf (var k) = 0
 topOf (app h ts) = h
-
--- how many terms follow a word: as many as the symbol has inputs, none behind a variable
-pub data Behind (P : Pack) (w n : ℕ) : Type 0 where
-  a-symbol : w < variable → n ≡ length (symbolOf P w .inputs) → Behind P w n
-  a-variable : variable ≤ w → n ≡ 0 → Behind P w n
-
--- ahead of word i of a rule: k terms of its premises are still to come
-pub record Passing (P : Pack) (r i k : ℕ) : Type 0 where
-  pub rule : r < length (P .rules)
-  pub within : i ≤ length (termsWords (ruleOf P r .premises))
-  pub pending : Pending P (ruleOf P r .vars) (drop i (termsWords (ruleOf P r .premises))) k
 
 -- a judgment's first word is the symbol on top of it, since no variable is of the sort prop
 judgment-first : (P : Pack) (vars : List ℕ) → Below (length (P .sorts)) vars → length (P .sorts) ≤ 256 → (t : Term) → Sorted P vars t prop → (ws : List ℕ) → getD (ws ++ termWords t) (length ws) 0 ≡ topOf t
@@ -39,65 +27,30 @@ unfolding termWords topOf
 judgment-first P vars b few (var k) S ws = absurd (omega (arith, below-at (length (P .sorts)) vars k b (S .0), S .1, few))
 judgment-first P vars b few (app h ts) S ws = getD-at ws h (termsWords ts) 0 (length ws) refl
 
-module _ (P : Pack) (Q : Proper P) (r : ℕ) where
+-- behind the premises' words stands the conclusion's first
+module _ (P : Pack) (Q : Proper P) (r : ℕ) (l : r < length (P .rules)) where
   abbrev A : List ℕ
   A = termsWords (ruleOf P r .premises)
 
   abbrev C : List ℕ
   C = termWords (ruleOf P r .conclusion)
 
-  -- ahead of the first word all premises are to come
-  pub passing-first : r < length (P .rules) → (n : ℕ) → n ≡ count (ruleOf P r .premises) → Passing P r 0 n
-  passing-first l n e = record {
+  -- the premises' words are the rule's first
+  pub premises-spelt : (vars : ℕ) → vars ≡ length (ruleOf P r .vars) → Spelt P r vars 0 (ruleOf P r .premises)
+  premises-spelt vars e = record {
     rule = l;
-    within = omega arith;
-    pending = record {
-      terms = ruleOf P r .premises;
-      sorts = replicate (count (ruleOf P r .premises)) prop;
-      sorted = judgments-sorted P (ruleOf P r .vars) (ruleOf P r .premises) (Q .good .rules r l .premises);
-      words = refl;
-      many = length-replicate (count (ruleOf P r .premises)) prop ∙ sym e;
-    };
+    many = e;
+    words = λ j h. let z : 0 + j ≡ j = omega arith in ap (λ (k : ℕ). getD (A ++ C) k 0) z ∙ List·getD-append A C 0 j h;
+    within = omega (arith, length-append A C);
+    sorts = replicate (count (ruleOf P r .premises)) prop;
+    sorted = judgments-sorted P (ruleOf P r .vars) (ruleOf P r .premises) (Q .good .rules r l .premises);
   }
 
-  module _ (i k : ℕ) (p : Passing P r i k) where
-    -- there is a word, be it the conclusion's
-    pub passing-there : i < length (ruleWords (ruleOf P r))
-    passing-there = omega (arith, p .within, length-append A C, term-some (ruleOf P r .conclusion))
+  module _ (i : ℕ) (passed : i ≡ 0 + length A) where
+    pub conclusion-there : i < length (ruleWords (ruleOf P r))
+    conclusion-there = omega (arith, passed, length-append A C, term-some (ruleOf P r .conclusion))
 
-    pub passing-early : i < 256
-    passing-early = omega (arith, passing-there, words-most P (Q .good) r (p .rule))
-
-    pub passing-few : k ≤ 256
-    passing-few = omega (arith, pending-most P (ruleOf P r .vars) (drop i A) k (p .pending), length-drop i A, length-append A C, words-most P (Q .good) r (p .rule))
-
-    -- no term of the premises is to come: the word is the conclusion's first
-    pub passing-last : k ≡ 0 → (w : ℕ) → w ≡ getD (ruleWords (ruleOf P r)) i 0 → w ≡ topOf (ruleOf P r .conclusion)
-    passing-last z w word =
-        let none : drop i A ≡ [] = pending-none P (ruleOf P r .vars) (drop i A) (subst (Pending P (ruleOf P r .vars) (drop i A)) z (p .pending)) in
-        let all : i ≡ length A = omega (arith, p .within, length-drop i A, ap length none) in
-        word ∙ ap (λ (j : ℕ). getD (A ++ C) j 0) all ∙ judgment-first P (ruleOf P r .vars) (Q .good .rules r (p .rule) .vars) (Q .few .sorts) (ruleOf P r .conclusion) (Q .good .rules r (p .rule) .conclusion) A
-
-    -- a term is to come: the word is its first
-    module _ (some : 0 < k) (w : ℕ) (word : w ≡ getD (ruleWords (ruleOf P r)) i 0) where
-      next : Pending P (ruleOf P r .vars) (drop i A) (suc (k - 1))
-      next = subst (Pending P (ruleOf P r .vars) (drop i A)) (omega arith) (p .pending)
-
-      inside : i < length A
-      inside = word-there P (Q .few) (ruleOf P r .vars) A i (k - 1) next
-
-      here : w ≡ getD A i 0
-      here = word ∙ List·getD-append A C 0 i inside
-
-      pub passing-symbol : w < variable → w < length (P .symbols)
-      passing-symbol low = omega (arith, here, next-symbol P (Q .few) (ruleOf P r .vars) A i (k - 1) next (omega (arith, here, low)) .0)
-
-      -- behind it the terms that follow it are to come, too
-      pub passing-next : (n : ℕ) → Behind P w n → Passing P r (suc i) (k - 1 + n)
-      passing-next n (a-symbol low many) =
-          let q = next-symbol P (Q .few) (ruleOf P r .vars) A i (k - 1) next (omega (arith, here, low)) .1 in
-          let e : length (symbolOf P (getD A i 0) .inputs) + (k - 1) ≡ k - 1 + n = omega (arith, ap (λ (h : ℕ). length (symbolOf P h .inputs)) here, many) in
-          record { rule = p .rule; within = inside; pending = subst (Pending P (ruleOf P r .vars) (drop (suc i) A)) e q }
-      passing-next n (a-variable high none) =
-          let q = next-variable P (Q .few) (ruleOf P r .vars) A i (k - 1) next (omega (arith, here, high)) .1 in
-          record { rule = p .rule; within = inside; pending = subst (Pending P (ruleOf P r .vars) (drop (suc i) A)) (omega (arith, none)) q }
+    pub conclusion-first : (w : ℕ) → w ≡ getD (ruleWords (ruleOf P r)) i 0 → w ≡ topOf (ruleOf P r .conclusion)
+    conclusion-first w word =
+        let all : i ≡ length A = omega (arith, passed) in
+        word ∙ ap (λ (j : ℕ). getD (A ++ C) j 0) all ∙ judgment-first P (ruleOf P r .vars) (Q .good .rules r l .vars) (Q .few .sorts) (ruleOf P r .conclusion) (Q .good .rules r l .conclusion) A

@@ -11,6 +11,7 @@ use lib.ListN.{length, getD, set, length-set}
 use lib.Seq.{getD-set-same, getD-set-other}
 use Rattle.definition.specs.Test.{Is, is, see, never}
 use Rattle.definition.specs.Good.{Below}
+use Rattle.definition.specs.Laws.Grow.{below-at}
 use Rattle.definition.specs.Graph.{Graph, vertex, root, isVar, ends, circular}
 use Rattle.graph.specs.declared.graph.Graph.{Graph as Counts}
 use Rattle.circle.specs.declared.walk.Seen.{Seen}
@@ -20,7 +21,6 @@ use Rattle.circle.specs.declared.walk.Turn.the-variants.{On, Circle}
 use Rattle.graph.specs.Cells.{startIn, linkWord, Laid, Shows, nodes-few}
 use Rattle.graph.specs.Links.{Holds, Found}
 use Rattle.graph.specs.Pairs.{arity-of, argument-there, end-there, ArityOf, ArgumentOf}
-use Rattle.theory.specs.Copies.Instantiate.{below-at}
 use Rattle.graph.specs.Unifies.{Inner, HoldsInner, many-nodes}
 use Rattle.circle.specs.Paths.{colourOf, next, Stepped, nodeAt, lookedAt, Standing, Leads, Walk, Last, StillSeen, toDo, var-ends, mark-here, done-still, mark-seen, mark-less, walk-done, grey-seen, grey-less, walk-pushed, last-pushed, walk-looked, circle-there, grey-here, walk-none, top-ends, none-circular, last-done}
 

@@ -15,6 +15,7 @@ pub mod Put
 pub mod Body
 pub mod Encode
 pub mod Prefix
+pub mod Suffix
 pub mod Decide
 pub mod DecideTheory
 pub mod DecideCertificate

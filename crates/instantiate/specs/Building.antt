@@ -28,7 +28,7 @@ use Rattle.graph.specs.Unifies.{Inner, inner-more}
 use Rattle.instantiate.specs.declared.terms.Place.{Place}
 use Rattle.instantiate.specs.declared.terms.Taken.{Taken}
 use Rattle.instantiate.specs.declared.terms.Taken.the-variants.{On, Short as Full}
-use Rattle.instantiate.specs.Suffix.{after, Ahead, a-variable, a-symbol, after-sorted, after-words, after-ahead, after-few, nodes-many, variable-nodes, symbol-nodes}
+use Rattle.definition.specs.Laws.Suffix.{after}
 
 -- a term of a rule, whose words are the rule's from one place to another
 pub record Spells (P : Pack) (r vars from to : ℕ) (t : Term) : Type 0 where

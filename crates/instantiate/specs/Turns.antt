@@ -10,7 +10,7 @@ use Rattle.definition.specs.Test.{never}
 use Rattle.definition.specs.Pack.{Term, Terms, var, app, nil, cons, Pack, symbolOf, ruleOf}
 use Rattle.definition.specs.Theory.{variable}
 use Rattle.definition.specs.Good.{Sorted, SortedAll, Below, Few}
-use Rattle.definition.specs.Laws.Grow.{below-more}
+use Rattle.definition.specs.Laws.Grow.{below-more, below-at}
 use Rattle.definition.specs.Graph.{Vertex, Graph, applied, push, cells as cellsOf}
 use Rattle.definition.specs.Analysis.{GrownAll, instantiate, instantiateAll}
 use Rattle.definition.specs.Laws.Prefix.{termWords, termsWords}
@@ -24,9 +24,9 @@ use Rattle.graph.specs.declared.graph.Pushed.the-variants.{At, Short}
 use Rattle.graph.specs.Cells.{rowsEnd, Shows, Unchanged}
 use Rattle.graph.specs.Pushes.{Pushes}
 use Rattle.graph.specs.Unifies.{Inner, inner-more}
-use Rattle.theory.specs.Copies.Instantiate.{below-at}
 use Rattle.instantiate.specs.declared.terms.Place.{Place}
-use Rattle.instantiate.specs.Suffix.{after, Ahead, a-variable, a-symbol, after-sorted, after-words, after-ahead, after-few, nodes-many, variable-nodes, symbol-nodes}
+use Rattle.definition.specs.Laws.Suffix.{after, Ahead, a-variable, a-symbol, after-ahead, all-words}
+use Rattle.instantiate.specs.Suffix.{after-few, nodes-many, variable-nodes, symbol-nodes}
 use Rattle.instantiate.specs.Building.{Spells, tableIn, Room, Outside, nodesOf, Built}
 
 -- ---- the table was lent and came back
@@ -75,11 +75,6 @@ on-top stack at v h =
 below-parts : (n : ℕ) (xs ys : List ℕ) → Below n (xs ++ ys) → Below n xs × Below n ys
 below-parts n [] ys b = (tt, b)
 below-parts n (x ∷ xs) ys b = let q = below-parts n xs ys (b .1) in ((b .0, q .0), q .1)
-
--- a term's words as those of one term
-pub all-words : (t : Term) → termsWords (cons t nil) ≡ termWords t
-unfolding termsWords
-all-words t = append-nil (termWords t)
 
 -- ---- word j of t
 module _ (P : Pack) (few : Few P) (r vars from to i j w : ℕ) (t : Term) (Sp : Spells P r vars from to t) (place : i ≡ from + j) (there : j < length (termWords t)) (word : w ≡ getD (ruleWords (ruleOf P r)) i 0) where

@@ -14,15 +14,10 @@ use Rattle.graph.specs.declared.graph.Graph.{Graph as Counts}
 use Rattle.graph.specs.Cells.{Shows}
 use Rattle.graph.specs.Unifies.{Inner}
 use Rattle.instantiate.specs.declared.terms.Place.{Place}
-use Rattle.instantiate.specs.Suffix.{after, Ahead, a-variable, a-symbol, term-some, after-sorted, after-words, after-ahead, variable-nodes, symbol-nodes}
+use Rattle.definition.specs.Laws.Suffix.{after, Ahead, a-variable, a-symbol, after-words, after-ahead, all-words, no-words}
+use Rattle.instantiate.specs.Suffix.{variable-nodes, symbol-nodes}
 use Rattle.instantiate.specs.Building.{Spells, tableIn, nodesOf, Built}
-use Rattle.instantiate.specs.Turns.{cells-more, all-words}
-
--- terms without words are none
-no-words : (ts : Terms) → length (termsWords ts) ≡ 0 → ts ≡ nil
-unfolding termsWords
-no-words nil e = refl
-no-words (cons t ts) e = absurd (omega (arith, term-some t, length-append (termWords t) (termsWords ts)))
+use Rattle.instantiate.specs.Turns.{cells-more}
 
 module _ (P : Pack) (r vars from to : ℕ) (t : Term) (Sp : Spells P r vars from to t) where
   -- behind the last word there is no term

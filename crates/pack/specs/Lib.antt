@@ -4,3 +4,4 @@ pub mod Held
 pub mod Laws
 pub mod Reads
 pub mod Says
+pub mod Spelt

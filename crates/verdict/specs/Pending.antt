@@ -9,6 +9,7 @@ use Rattle.definition.specs.Pack.{prop, Term, Terms, var, app, nil, cons, Pack,
 use Rattle.definition.specs.Theory.{variable}
 use Rattle.definition.specs.Good.{Sorted, SortedAll, Few}
 use Rattle.definition.specs.Laws.Prefix.{termWords, termsWords}
+use Rattle.definition.specs.Laws.Suffix.{joined, joined-words, joined-sorted, words-some}
 
 -- the words of k terms, each of its sort
 pub record Pending (P : Pack) (vars ws : List ℕ) (k : ℕ) : Type 0 where
@@ -17,22 +18,6 @@ pub record Pending (P : Pack) (vars ws : List ℕ) (k : ℕ) : Type 0 where
   pub sorted : SortedAll P vars terms sorts
   pub words : ws ≡ termsWords terms
   pub many : length sorts ≡ k
-
--- terms, then others
-abbrev joined : Terms → Terms → Terms
-joined nil us = us
-joined (cons t ts) us = cons t (joined ts us)
-
-joined-words : (ts us : Terms) → termsWords (joined ts us) ≡ termsWords ts ++ termsWords us
-unfolding termsWords
-joined-words nil us = refl
-joined-words (cons t ts) us = ap (λ (l : List ℕ). termWords t ++ l) (joined-words ts us) ∙ sym (append-assoc (termWords t) (termsWords ts) (termsWords us))
-
-joined-sorted : (P : Pack) (vars : List ℕ) (ts us : Terms) (ss rs : List ℕ) → SortedAll P vars ts ss → SortedAll P vars us rs → SortedAll P vars (joined ts us) (ss ++ rs)
-joined-sorted P vars nil us [] rs S R = R
-joined-sorted P vars nil us (s ∷ ss) rs S R = absurd S
-joined-sorted P vars (cons t ts) us [] rs S R = absurd S
-joined-sorted P vars (cons t ts) us (s ∷ ss) rs S R = (S .0, joined-sorted P vars ts us ss rs (S .1) R)
 
 -- a rule's premises and its conclusion
 pub rule-pending : (P : Pack) (vars : List ℕ) (ts : Terms) (t : Term) (ss : List ℕ) → SortedAll P vars ts ss → Sorted P vars t prop → (k : ℕ) → length (ss ++ (prop ∷ [])) ≡ k → Pending P vars (termsWords ts ++ termWords t) k
@@ -45,22 +30,9 @@ rule-pending P vars ts t ss S C k m = record {
   many = m;
 }
 
--- a term has a word at least
-pub term-some : (t : Term) → 1 ≤ length (termWords t)
-unfolding termWords
-term-some (var k) = omega arith
-term-some (app h ts) = omega arith
-
-terms-some : (P : Pack) (vars : List ℕ) (ts : Terms) (ss : List ℕ) → SortedAll P vars ts ss → length ss ≤ length (termsWords ts)
-unfolding termsWords
-terms-some P vars nil [] S = omega arith
-terms-some P vars nil (s ∷ ss) S = absurd S
-terms-some P vars (cons t ts) [] S = absurd S
-terms-some P vars (cons t ts) (s ∷ ss) S = omega (arith, term-some t, terms-some P vars ts ss (S .1), length-append (termWords t) (termsWords ts))
-
 -- there are as many words as terms at least
 pub pending-most : (P : Pack) (vars ws : List ℕ) (k : ℕ) → Pending P vars ws k → k ≤ length ws
-pending-most P vars ws k p = omega (arith, terms-some P vars (p .terms) (p .sorts) (p .sorted), ap length (p .words), p .many)
+pending-most P vars ws k p = omega (arith, words-some P vars (p .terms) (p .sorts) (p .sorted), ap length (p .words), p .many)
 
 -- no term, no word
 pub pending-none : (P : Pack) (vars ws : List ℕ) → Pending P vars ws 0 → ws ≡ []

@@ -6,6 +6,7 @@ use native.Mathlib.Omega.{arith}
 use lib.ListN.{length, getD, drop, drop-of-length-le}
 use lib.Seq.{drop-cons}
 use Rattle.definition.specs.Pack.{Pack, nodeOf, stepOf}
+use Rattle.definition.specs.Laws.Grow.{below-at}
 use Rattle.definition.specs.Good.{Below}
 use Rattle.definition.specs.Laws.Agreement.{judged}
 use Rattle.base.specs.Stack.{stacked}
@@ -96,12 +97,6 @@ pub record JudgmentsFrom (bytes work : List ℕ) (c : Catalog) (i k : ℕ) (stac
   pub left : OfHeld bytes work c (λ P. k ≤ length (stepOf P i .refs))
   pub many : OfHeld bytes work c (λ P. s′ .len ≡ 1 + (length (stepOf P i .refs) - k))
   pub words : OfHeld bytes work c (λ P. stacked 0 (s′ .len) stack′ ≡ judged P (drop k (stepOf P i .refs)) ++ (stepOf P i .judgment ∷ []))
-
--- a number of a list whose numbers are all below n
-pub below-at : (n : ℕ) (xs : List ℕ) (k : ℕ) → Below n xs → k < length xs → getD xs k 0 < n
-below-at n [] k b l = absurd (omega arith)
-below-at n (x ∷ xs) zero b l = b .0
-below-at n (x ∷ xs) (suc k) b l = below-at n xs k (b .1) (omega arith)
 
 module _ (bytes work : List ℕ) (c : Catalog) (i k : ℕ) (stack : List ℕ) where
   -- its own alone

@@ -16,7 +16,9 @@ use Rattle.definition.specs.Verdict.{Bound, valueOf, bound, provided, onwards, 
 use Rattle.definition.specs.Good.{Below, Good}
 use Rattle.definition.specs.Laws.Grow.{below-more}
 use Rattle.definition.specs.Laws.Agreement.{judged, judged-below}
-use Rattle.definition.specs.Laws.Prefix.{termWords, termsWords, term-length, terms-length}
+use Rattle.definition.specs.Laws.Prefix.{termWords, termsWords}
+use Rattle.definition.specs.Laws.Suffix.{judgments-sorted}
+use Rattle.pack.specs.Spelt.{words-most}
 use Rattle.base.specs.Part.{put}
 use Rattle.base.specs.Zero.{zeros-long, zeros-there}
 use Rattle.base.specs.Stack.{stacked, length-stacked, Took}
@@ -24,16 +26,10 @@ use Rattle.base.specs.declared.stack.Stack.{Stack}
 use Rattle.base.specs.declared.stack.Popped.the-variants.{Word}
 use Rattle.pack.specs.Reads.{ruleWords}
 use Rattle.pack.specs.Held.{Proper}
-use Rattle.verdict.specs.Words.{matchWords, node-many, node-below, against, judgments-sorted, length-judged, passes-words}
+use Rattle.verdict.specs.Words.{matchWords, node-many, node-below, against, length-judged, passes-words}
 use Rattle.verdict.specs.Pending.{Pending, rule-pending, pending-most, pending-none, word-there, next-variable, next-symbol}
 use Rattle.verdict.specs.Values.{valueIn, Binds}
 use Rattle.verdict.specs.Matching.{Matching, Ready, rest}
-
--- a rule has at most 256 words and 64 variables
-pub words-most : (P : Pack) → Good P → (r : ℕ) → r < length (P .rules) → length (ruleWords (ruleOf P r)) ≤ 256
-words-most P G r l =
-    let x = ruleOf P r in
-    omega (arith, length-append (termsWords (x .premises)) (termWords (x .conclusion)), term-length (x .conclusion), terms-length (x .premises), G .rules r l .words)
 
 -- numbers below a bound, then others
 below-both : (n : ℕ) (xs ys : List ℕ) → Below n xs → Below n ys → Below n (xs ++ ys)
@@ -168,7 +164,9 @@ at-first P Q r stack vals s R slots n zeros vars-are z =
       slots = zeros-long 0 n n vals zeros (omega arith) few z ∙ slots;
       pending = R .pending;
       below = R .below;
-      values = λ k h. sym (ap valueIn (zeros-there 0 n n vals zeros (omega arith) few z k (omega (arith, vars-are, h))));
+      values = λ k h.
+          let first : k ≡ 0 + k = omega arith in
+          sym (ap valueIn (ap (λ (i : ℕ). getD (put 0 (n - 0) zeros vals) i 0) first ∙ zeros-there 0 n n vals zeros (omega arith) few z k (omega (arith, vars-are, h))));
     }
 
 -- a step's rule is to be matched against the judgments of its refs and its own

@@ -14,6 +14,7 @@ use Rattle.definition.specs.Certificate.{count}
 use Rattle.definition.specs.Verdict.{Bound, valueOf, bound, provided, onwards, matches, matchAll, matched, passes}
 use Rattle.definition.specs.Good.{Below, Sorted, SortedAll, Judgments, Arguments, Good, Few}
 use Rattle.definition.specs.Laws.Prefix.{termWords, termsWords}
+use Rattle.definition.specs.Laws.Suffix.{judgments-sorted}
 use Rattle.definition.specs.Laws.Tree.{args-below}
 use Rattle.definition.specs.Laws.Grow.{below-more}
 use Rattle.definition.specs.Laws.Agreement.{judged, judged-below}
@@ -100,12 +101,6 @@ module _ (P : Pack) (G : Good P) (F : Few P) (vars : List ℕ) where
         (words-term t s (S .0) a (b .0) (termsWords ts ++ ws) (us ++ ns) bs
         ∙ onwards-same (matches P t a bs) _ _ (λ cs. words-terms ts ss (S .1) us (omega arith) (b .1) ws ns cs)
         ∙ onwards-twice (matches P t a bs) (λ cs. matchAll P ts us cs) (λ cs. matchWords P ws ns cs))
-
--- judgments are terms of the sort prop
-pub judgments-sorted : (P : Pack) (vars : List ℕ) (ts : Terms) → Judgments P vars ts → SortedAll P vars ts (replicate (count ts) prop)
-unfolding count
-judgments-sorted P vars nil J = tt
-judgments-sorted P vars (cons t ts) J = (J .0, judgments-sorted P vars ts (J .1))
 
 -- the nodes that a step's rule is matched against: the judgments of its refs, then its own
 abbrev pub against : Pack → Step → List ℕ

@@ -16,6 +16,12 @@ pub below-more : (n m : ℕ) (xs : List ℕ) → n ≤ m → Below n xs → Belo
 below-more n m [] h b = tt
 below-more n m (x ∷ xs) h b = (omega (arith, b .0), below-more n m xs h (b .1))
 
+-- an element of numbers below n
+pub below-at : (n : ℕ) (xs : List ℕ) (i : ℕ) → Below n xs → i < length xs → getD xs i 0 < n
+below-at n [] i b l = absurd (omega arith)
+below-at n (x ∷ xs) zero b l = b .0
+below-at n (x ∷ xs) (suc i) b l = below-at n xs i (b .1) (omega arith)
+
 -- each element with its number is so
 abbrev pub Each : {A : Type 0} → (ℕ → A → Type 0) → A → List A → Type 0
 Each G d xs = (i : ℕ) → i < length xs → G i (getD xs i d)

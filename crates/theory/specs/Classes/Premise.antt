@@ -9,6 +9,7 @@ use lib.ListN.{length, getD}
 use Rattle.definition.specs.Test.{is}
 use Rattle.definition.specs.Pack.{prop, Term, Terms, var, app, nil, cons, Node, Pack, symbolOf}
 use Rattle.definition.specs.Tree.{Tree, tree, tree-then, turn, turns}
+use Rattle.definition.specs.Laws.Grow.{below-at}
 use Rattle.definition.specs.Good.{Below, Sorted, SortedAll, Few}
 use Rattle.definition.specs.Store.{termOf}
 use Rattle.definition.specs.Graph.{Graph, Grown, unify}
@@ -19,7 +20,7 @@ use Rattle.theory.specs.Copies.Begin.{begins-trans, solves-begins, sortA
 use Rattle.theory.specs.Copies.Push.{Extends}
 use Rattle.theory.specs.Unification.Kept.{same-sort}
 use Rattle.theory.specs.Unification.Unify.{Says, unify-says}
-use Rattle.theory.specs.Copies.Instantiate.{below-at, Environment, environment-begins, valuesOf, Instantiated, instantiated}
+use Rattle.theory.specs.Copies.Instantiate.{Environment, environment-begins, valuesOf, Instantiated, instantiated}
 use Rattle.theory.specs.Copies.Terms.{Earlier}
 use Rattle.theory.specs.Copies.Parts.{parts-self}
 use Rattle.theory.specs.Copies.Copying.{CopyOf}

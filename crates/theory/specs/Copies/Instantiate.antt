@@ -10,18 +10,12 @@ use Rattle.definition.specs.Pack.{Term, Terms, var, app, nil, cons, Pack, symbo
 use Rattle.definition.specs.Tree.{Tree, tree, tree-then, turn, turns}
 use Rattle.definition.specs.Store.{variableHead}
 use Rattle.definition.specs.Good.{Below, Sorted, SortedAll}
-use Rattle.definition.specs.Laws.Grow.{below-more}
+use Rattle.definition.specs.Laws.Grow.{below-more, below-at}
 use Rattle.definition.specs.Graph.{Vertex, Graph, Grown, applied, push, isVar}
 use Rattle.definition.specs.Analysis.{GrownAll, instantiate, instantiateAll}
 use Rattle.theory.specs.Unification.Solve.{treesAt, Solves, sortAt, SortsAt, Formed, Begins}
 use Rattle.theory.specs.Copies.Begin.{begins-refl, begins-trans, solves-begins, sortAt-begins, SortsAt-begins}
 use Rattle.theory.specs.Copies.Push.{push-length, push-begins, push-new, push-formed, push-sort-applied, push-extends, NewNode, new-applied, Extends, extends-trans}
-
--- an element of numbers below n
-pub below-at : (n : ℕ) (xs : List ℕ) (i : ℕ) → Below n xs → i < length xs → getD xs i 0 < n
-below-at n [] i b l = absurd (omega arith)
-below-at n (x ∷ xs) zero b l = b .0
-below-at n (x ∷ xs) (suc i) b l = below-at n xs i (b .1) (omega arith)
 
 -- an environment: for each variable a node of the graph of its sort
 pub record Environment (P : Pack) (vars env : List ℕ) (g : Graph) : Type 0 where
