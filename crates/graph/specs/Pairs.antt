@@ -118,7 +118,7 @@ abbrev pair : ℕ → ℕ → Pair
 pair a b = record { left = a; right = b }
 
 -- what stands behind the pairs is no matter to them
-pairs-kept : (from : ℕ) (table : List ℕ) (n i v : ℕ) → from + 2 * n ≤ i → pairsIn from (set table i v) n ≡ pairsIn from table n
+pub pairs-kept : (from : ℕ) (table : List ℕ) (n i v : ℕ) → from + 2 * n ≤ i → pairsIn from (set table i v) n ≡ pairsIn from table n
 unfolding pairsIn
 pairs-kept from table zero i v h = refl
 pairs-kept from table (suc n) i v h =

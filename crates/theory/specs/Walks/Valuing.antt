@@ -76,7 +76,7 @@ total-cells [] = refl
 total-cells (v ∷ g) = let ih = total-cells g in let f = total-front v g (length g) in omega arith
 
 -- the arguments of nodes below k without a value are no more than those of all
-left-most : (kids : ℕ → List ℕ) (k : ℕ) (vs : List Bound) → unfinished kids has k vs ≤ total kids k
+pub left-most : (kids : ℕ → List ℕ) (k : ℕ) (vs : List Bound) → unfinished kids has k vs ≤ total kids k
 unfolding unfinished total
 left-most kids zero vs = omega arith
 left-most kids (suc k) vs =

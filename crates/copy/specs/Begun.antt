@@ -1,0 +1,95 @@
+-- The beginning of a copy: the memo cleared, the variables' words zeroed, one frame written.
+use mathlib.Core.Path.{_≡_, refl, sym, ap, _∙_, subst}
+use mathlib.Core.Bool.{Bool, true, false}
+use mathlib.Core.List.{List, [], _∷_, map}
+use mathlib.Core.Option.{Option, none, some}
+use Prim.Native.Nat.{ℕ, zero, suc, _+_, _*_, _-_, _/_, _≤_, _<_}
+use native.Mathlib.Numerals.{add-one}
+use native.Mathlib.Omega.{arith}
+use borrow.Author.Tests.{eqb-true, eqb-false, eq-eqb, ne-eqb}
+use lib.Dec.{eqb, ltb}
+use lib.ListN.{length, getD, set, take, drop, replicate, length-set, length-map, length-drop, length-replicate, getD-replicate, List·getD-eq-default, List·getD-map}
+use lib.Seq.{getD-set-same, getD-set-other, getD-drop, take-all}
+use Rattle.definition.specs.Test.{is, see, tests, _and_}
+use Rattle.definition.specs.Store.{isVariable, variableHead, below}
+use Rattle.definition.specs.Good.{Below}
+use Rattle.definition.specs.Graph.{Vertex, Graph, variableVertex}
+use Rattle.definition.specs.Classes.{isSome}
+use Rattle.base.specs.Part.{part, put, length-part, part-at, part-same, length-put, part-put, put-before, put-at, put-behind, take-copied}
+use Rattle.store.specs.Words.{nodeWith}
+use Rattle.store.specs.Recall.{recall, known, Remembers}
+use Rattle.store.specs.declared.memo.Memo.{Memo}
+use Rattle.store.specs.declared.memo.Known.{Known}
+use Rattle.store.specs.declared.memo.Known.the-variants.{Value, Nothing}
+use Rattle.graph.specs.Cells.{markIn, rowsEnd, nodes-few}
+use Rattle.graph.specs.Links.{Holds}
+use Rattle.graph.specs.Unifies.{many-nodes}
+use Rattle.graph.specs.Pushes.{Pushes}
+use Rattle.graph.specs.declared.graph.Graph.{Graph as Counts}
+use Rattle.graph.specs.declared.graph.Pushed.{Pushed}
+use Rattle.graph.specs.declared.graph.Pushed.the-variants.{At, Short}
+use Rattle.base.specs.declared.id.Node.{Node}
+use Rattle.copy.specs.declared.walk.Copying.{Copying}
+use Rattle.copy.specs.Held.{indexIn, tableIn, rowsAt, rowsIn, valueIn, orZero, copyIn, markAt, marksIn, Apart, Outside, noted, Notes, Grows, Makes, Beside, Stays, Begins, Finishes, vertexFor, numberFor}
+use Rattle.copy.specs.Writes.{outside-then, outside-wider, outside-set, outside-put, back, back-at, part-ahead}
+
+module _ (work flex : List ℕ) (l : Copying) (p : ℕ) (memo : Memo) (up : l .copied ≤ l .walk) (room : l .walk + 2 ≤ l .variables) (fits : l .variables + length flex ≤ length work)
+    (table zs : List ℕ) (long : length table ≡ length (tableIn work l)) where
+  abbrev first : List ℕ
+  first = put (l .copied) (l .walk - l .copied) table work
+
+  O₁ : Outside (l .copied) (l .walk) work first
+  O₁ = outside-put (l .copied) (l .walk) work table up (omega arith) long
+
+  abbrev end : ℕ
+  end = l .variables + length flex
+
+  pub second-fits : end ≤ length first
+  second-fits = omega (arith, O₁ .long)
+
+  module _ (z : zs ≡ replicate (length (part (l .variables) (end - l .variables) first)) 0) where
+    abbrev second : List ℕ
+    second = put (l .variables) (end - l .variables) zs first
+
+    abbrev third : List ℕ
+    third = set (set second (l .walk) p) (l .walk + 1) 0
+
+    long-zs : length zs ≡ length (part (l .variables) (end - l .variables) first)
+    long-zs = ap length z ∙ length-replicate (length (part (l .variables) (end - l .variables) first)) 0
+
+    O₂ : Outside (l .variables) end first second
+    O₂ = outside-put (l .variables) end first zs (omega arith) second-fits long-zs
+
+    pub third-long : length third ≡ length work
+    third-long = length-set (set second (l .walk) p) (l .walk + 1) 0 ∙ length-set second (l .walk) p ∙ O₂ .long ∙ O₁ .long
+
+    O₃ : Outside (l .walk) (l .walk + 2) second third
+    O₃ = outside-then (l .walk) (l .walk + 2) second (set second (l .walk) p) third (outside-set (l .walk) (l .walk + 2) (l .walk) p second (omega arith) (omega arith)) (outside-set (l .walk) (l .walk + 2) (l .walk + 1) 0 (set second (l .walk) p) (omega arith) (omega arith))
+
+    table-there : tableIn third l ≡ table
+    table-there =
+        part-ahead (l .walk) (l .walk + 2) (l .copied) (l .walk) second third O₃ (omega arith) (omega (arith, O₂ .long, O₁ .long)) up
+        ∙ part-ahead (l .variables) end (l .copied) (l .walk) first second O₂ (omega arith) (omega (arith, O₁ .long)) up
+        ∙ back (l .copied) (l .walk) work table up (omega arith) long
+
+    pub begun : (n : ℕ) → Remembers table memo × (recall table memo ≡ replicate n none) → Begins work third flex l p memo
+    begun n R = record {
+      outside = outside-then (l .copied) end work first third
+          (outside-wider (l .copied) (l .walk) (l .copied) end work first (omega arith) (omega arith) O₁)
+          (outside-then (l .copied) end first second third (outside-wider (l .variables) end (l .copied) end first second (omega arith) (omega arith) O₂) (outside-wider (l .walk) (l .walk + 2) (l .copied) end second third (omega arith) (omega arith) O₃));
+      remembers = subst (λ (t : List ℕ). Remembers t memo) (sym table-there) (R .0);
+      empty = λ q. ap (λ (t : List ℕ). getD (recall t memo) q none) table-there ∙ ap (λ (o : List (Option ℕ)). getD o q none) (R .1) ∙ none-at n q;
+      node = getD-set-other (set second (l .walk) p) (l .walk + 1) (l .walk) 0 0 (λ e. absurd (omega arith)) ∙ getD-set-same second (l .walk) p 0 (omega (arith, O₂ .long, O₁ .long));
+      taken = getD-set-same (set second (l .walk) p) (l .walk + 1) 0 0 (omega (arith, length-set second (l .walk) p, O₂ .long, O₁ .long));
+      variables = λ k h. O₃ .behind (l .variables + k) (omega arith) ∙ back-at (l .variables) end first zs (omega arith) second-fits long-zs k (omega arith) ∙ ap (λ (t : List ℕ). getD t k 0) z ∙ zero-at (length (part (l .variables) (end - l .variables) first)) k;
+    }
+      where
+        none-at : (n q : ℕ) → _≡_ {A = Option ℕ} (getD (replicate n none) q none) none
+        none-at zero q = refl
+        none-at (suc n) zero = refl
+        none-at (suc n) (suc q) = none-at n q
+
+        zero-at : (n q : ℕ) → _≡_ {A = ℕ} (getD (replicate n 0) q 0) 0
+        zero-at zero q = refl
+        zero-at (suc n) zero = refl
+        zero-at (suc n) (suc q) = zero-at n q

@@ -1,0 +1,326 @@
+// A fresh copy of a pattern, a node for each distinct node of it, arguments first: a walk by a stack that copies each node once.
+use base::id::Node;
+use base::id::Pattern;
+use base::zero::zero_words;
+use graph::graph::Graph;
+use graph::graph::Pushed;
+use store::memo::Known;
+use store::memo::Memo;
+use store::nodes::Store;
+ghost use mathlib.Core.Path.{_≡_};
+ghost use mathlib.Core.List.{map};
+ghost use mathlib.Core.Option.{some};
+ghost use Prim.Native.Nat.{suc, _+_, _-_, _*_, _≤_, _<_};
+ghost use lib.Dec.{eqb};
+ghost use lib.ListN.{length, getD, set, take, drop};
+ghost use Rattle.definition.specs.Test.{_and_};
+ghost use Rattle.definition.specs.Store.{below};
+ghost use Rattle.definition.specs.Graph.{variableVertex, applied};
+ghost use Rattle.definition.specs.Classes.{isSome};
+ghost use Rattle.store.specs.Words.{nodeWith};
+ghost use Rattle.store.specs.Stored.{nodes};
+ghost use Rattle.store.specs.Recall.{recall, Remembers};
+ghost use Rattle.graph.specs.Cells.{markIn};
+ghost use Rattle.graph.specs.Links.{Holds};
+ghost use Rattle.copy.specs.Held.{tableIn, rowsIn, valueIn, copyIn, markAt, Apart, Arguments, Key, Outside, Notes, Grows, Makes, vertexFor, numberFor, Finishes, Ready, Advances, Runs, Begins, Given, Copies};
+
+// Where copying has its tables in work: the store's index; what pattern nodes were copied to, a memo of two words each; the walk's
+// stack, two words for each; a word for each variable of the class, its graph node and one or 0; the graph's table.
+pub struct Copying {
+    pub index: usize,
+    pub copied: usize,
+    pub walk: usize,
+    pub variables: usize,
+    pub graph: usize,
+    pub end: usize,
+}
+
+// The node that the pattern was copied to, the graph with it and the memo as it is then; or that the cells have no room.
+pub enum Copied {
+    At(Node, Graph, Memo),
+    Short,
+}
+
+// So many frames stand on the stack, and the graph as it is then; or the cells have no room.
+enum Turn {
+    On(usize, Graph),
+    Short,
+}
+
+// What pattern `q` was copied to, or 0.
+fn copy_of(work: &[u32], l: Copying, memo: Memo, q: u32) -> u32
+    requires { ⌜ (l .copied ≤ l .walk) × (l .walk ≤ length (now work)) × (q < length (recall (tableIn (now work) l) memo)) ⌝ }
+    ensures { λ r. ⌜ r ≡ copyIn (now (work .entry)) l memo q ⌝ }
+{
+    let from = l.copied;
+    let to = l.walk;
+    match memo.get(&work[from..to], q as usize) {
+        Known::Value(v) => v,
+        Known::Nothing => 0,
+    }
+}
+
+// Whether a frame of pattern `p` is new and the pattern was copied before.
+fn passes(work: &[u32], l: Copying, memo: Memo, p: Pattern, taken: u32) -> bool
+    requires { ⌜ (l .copied ≤ l .walk) × (l .walk ≤ length (now work)) × (p .0 < length (recall (tableIn (now work) l) memo)) ⌝ }
+    ensures { λ r. ⌜ r ≡ (eqb taken 0 and isSome (valueIn (now (work .entry)) l memo (p .0))) ⌝ }
+{
+    if taken != 0 {
+        return false;
+    }
+    let from = l.copied;
+    let to = l.walk;
+    match memo.get(&work[from..to], p.0 as usize) {
+        Known::Value(_) => true,
+        Known::Nothing => false,
+    }
+}
+
+// The copies of a key's arguments.
+fn gather(work: &[u32], l: Copying, memo: Memo, key: &[u32], args: &mut [u32])
+    requires { ⌜ (l .copied ≤ l .walk) × (l .walk ≤ length (now work)) × Arguments (now work) l memo (now key) × (length (now args) ≡ 16) ⌝ }
+    ensures { λ _. ⌜ take (length (now (key .entry)) - 1) (now (args .exit)) ≡ map (copyIn (now (work .entry)) l memo) (drop 1 (now (key .entry))) ⌝ }
+{
+    let n = key.len() - 1;
+    let mut i: usize = 0;
+    while i < n {
+        args[i] = copy_of(work, l, memo, key[i + 1]);
+        i += 1;
+    }
+}
+
+// The mark of variable `k`.
+fn mark_of(flex: &[u32], k: u32) -> u32
+    ensures { λ r. ⌜ markIn r ≡ markAt (now (flex .entry)) k ⌝ }
+{
+    let i = k as usize;
+    if i < flex.len() {
+        return flex[i];
+    }
+    0
+}
+
+// Variable `k` was copied to node `x`.
+fn note(work: &mut [u32], l: Copying, flex: &[u32], k: u32, x: Node)
+    requires { ⌜ (l .variables + length (now flex) ≤ l .graph) × (l .graph ≤ length (now work)) × (x .0 < 4294967295) ⌝ }
+    ensures { λ _. ⌜ Outside (l .variables) (l .graph) (now (work .entry)) (now (work .exit)) × Notes (now (work .entry)) (now (work .exit)) (now (flex .entry)) l (some k) (x .0) ⌝ }
+{
+    let i = k as usize;
+    if i < flex.len() {
+        let at = l.variables + i;
+        work[at] = x.0 + 1;
+    }
+}
+
+// A fresh variable in place of variable `k`.
+fn copy_variable(
+    work: &mut [u32],
+    cells: &mut [u32],
+    l: Copying,
+    g: Graph,
+    flex: &[u32],
+    k: u32,
+    sort: u32,
+) -> Pushed
+    requires { ⌜ Apart (now work) (now cells) (now flex) l × Holds (now cells) (rowsIn (now work) (now cells) l) g ⌝ }
+    ensures { λ r. ⌜ Makes (now (work .entry)) (now (work .exit)) (now (cells .entry)) (now (cells .exit)) (now (flex .entry)) l g (variableVertex sort (markAt (now (flex .entry)) k) (markIn 0)) (some k) r ⌝ }
+{
+    let from = l.graph;
+    let to = from + (5 * cells.len() + 5);
+    let mark = mark_of(flex, k);
+    match g.var(cells, &mut work[from..to], sort, mark, 0) {
+        Pushed::At(x, h) => {
+            note(work, l, flex, k, x);
+            Pushed::At(x, h)
+        }
+        Pushed::Short => Pushed::Short,
+    }
+}
+
+// An application over the copies of its arguments.
+fn copy_application(
+    work: &mut [u32],
+    cells: &mut [u32],
+    l: Copying,
+    memo: Memo,
+    g: Graph,
+    key: &[u32],
+) -> Pushed
+    requires { ⌜ (l .copied ≤ l .walk) × (l .walk ≤ l .graph) × (l .graph + (5 * length (now cells) + 5) ≤ length (now work)) × Holds (now cells) (rowsIn (now work) (now cells) l) g × Arguments (now work) l memo (now key) ⌝ }
+    ensures { λ r. ⌜ Grows (now (work .entry)) (now (work .exit)) (now (cells .entry)) (now (cells .exit)) l g (applied (getD (now (key .entry)) 0 0) (map (copyIn (now (work .entry)) l memo) (drop 1 (now (key .entry))))) r ⌝ }
+{
+    let mut args = [0; 16];
+    gather(work, l, memo, key, &mut args);
+    let n = key.len() - 1;
+    let from = l.graph;
+    let to = from + (5 * cells.len() + 5);
+    g.push(cells, &mut work[from..to], key[0], &args[0..n])
+}
+
+// The node with a key, copied.
+fn copy_node(
+    work: &mut [u32],
+    cells: &mut [u32],
+    l: Copying,
+    memo: Memo,
+    g: Graph,
+    flex: &[u32],
+    key: &[u32],
+) -> Pushed
+    requires { ⌜ Apart (now work) (now cells) (now flex) l × Holds (now cells) (rowsIn (now work) (now cells) l) g × Key (now work) l memo (now key) ⌝ }
+    ensures { λ r. ⌜ Makes (now (work .entry)) (now (work .exit)) (now (cells .entry)) (now (cells .exit)) (now (flex .entry)) l g (vertexFor (now (work .entry)) l memo (now (flex .entry)) (now (key .entry))) (numberFor (now (key .entry))) r ⌝ }
+{
+    if key[0] == Pattern::VAR {
+        return copy_variable(work, cells, l, g, flex, key[1], key[2]);
+    }
+    copy_application(work, cells, l, memo, g, key)
+}
+
+// Pattern `p` with a key, copied, and its copy in the memo.
+fn finish(
+    work: &mut [u32],
+    cells: &mut [u32],
+    l: Copying,
+    memo: Memo,
+    g: Graph,
+    flex: &[u32],
+    p: Pattern,
+    key: &[u32],
+) -> Pushed
+    requires { ⌜ Apart (now work) (now cells) (now flex) l × Holds (now cells) (rowsIn (now work) (now cells) l) g × Key (now work) l memo (now key) × Remembers (tableIn (now work) l) memo × (p .0 < length (recall (tableIn (now work) l) memo)) ⌝ }
+    ensures { λ r. ⌜ Finishes (now (work .entry)) (now (work .exit)) (now (cells .entry)) (now (cells .exit)) (now (flex .entry)) l memo g (p .0) (now (key .entry)) r ⌝ }
+{
+    match copy_node(work, cells, l, memo, g, flex, key) {
+        Pushed::At(x, h) => {
+            let from = l.copied;
+            let to = l.walk;
+            memo.insert(&mut work[from..to], p.0 as usize, x.0);
+            Pushed::At(x, h)
+        }
+        Pushed::Short => Pushed::Short,
+    }
+}
+
+// How many pattern nodes stand below the node with a key.
+fn kids(key: &[u32]) -> usize
+    requires { ⌜ 0 < length (now key) ⌝ }
+    ensures { λ r. ⌜ r ≡ length (below (nodeWith (now (key .entry)))) ⌝ }
+{
+    if key[0] == Pattern::VAR {
+        return 0;
+    }
+    key.len() - 1
+}
+
+// The frame at `at` takes one more; pattern `q` gets a frame above it.
+fn enter(work: &mut [u32], at: usize, taken: u32, q: u32)
+    requires { ⌜ (at + 3 < length (now work)) × (taken < 16) ⌝ }
+    ensures { λ _. ⌜ now (work .exit) ≡ set (set (set (now (work .entry)) (at + 1) (taken + 1)) (at + 2) q) (at + 3) 0 ⌝ }
+{
+    work[at + 1] = taken + 1;
+    work[at + 2] = q;
+    work[at + 3] = 0;
+}
+
+// One turn on the frame above `top` others: it is dropped if its pattern was copied; or its next argument gets a frame; or its pattern
+// is copied.
+fn advance(
+    work: &mut [u32],
+    words: &[u32],
+    cells: &mut [u32],
+    l: Copying,
+    st: Store,
+    memo: Memo,
+    g: Graph,
+    flex: &[u32],
+    top: usize,
+) -> Turn
+    requires { ⌜ Ready (now work) (now words) (now cells) (now flex) l st memo g (suc top) ⌝ }
+    ensures { λ r. ⌜ Advances (now (work .entry)) (now (work .exit)) (now (words .entry)) (now (cells .entry)) (now (cells .exit)) (now (flex .entry)) l st memo g top r ⌝ }
+{
+    let at = l.walk + 2 * top;
+    let p = Pattern(work[at]);
+    let taken = work[at + 1];
+    if passes(work, l, memo, p, taken) {
+        return Turn::On(top, g);
+    }
+    let from = l.index;
+    let to = l.copied;
+    let key = st.node(&work[from..to], words, p);
+    if (taken as usize) < kids(key) {
+        enter(work, at, taken, key[taken as usize + 1]);
+        return Turn::On(top + 2, g);
+    }
+    match finish(work, cells, l, memo, g, flex, p, key) {
+        Pushed::At(_, h) => Turn::On(top, h),
+        Pushed::Short => Turn::Short,
+    }
+}
+
+// The turns from one frame on until none is left.
+fn run(
+    work: &mut [u32],
+    words: &[u32],
+    cells: &mut [u32],
+    l: Copying,
+    st: Store,
+    memo: Memo,
+    start: Graph,
+    flex: &[u32],
+) -> Turn
+    requires { ⌜ Ready (now work) (now words) (now cells) (now flex) l st memo start 1 ⌝ }
+    ensures { λ r. ⌜ Runs (now (work .entry)) (now (work .exit)) (now (words .entry)) (now (cells .entry)) (now (cells .exit)) (now (flex .entry)) l st memo start 1 r ⌝ }
+{
+    let mut g = start;
+    let mut top: usize = 1;
+    while 0 < top {
+        match advance(work, words, cells, l, st, memo, g, flex, top - 1) {
+            Turn::On(k, h) => {
+                top = k;
+                g = h;
+            }
+            Turn::Short => {
+                return Turn::Short;
+            }
+        }
+    }
+    Turn::On(0, g)
+}
+
+// A memo without entries, no variable noted, and a frame for pattern `p`.
+fn begin(work: &mut [u32], l: Copying, memo: Memo, flex: &[u32], p: Pattern) -> Memo
+    requires { ⌜ Remembers (tableIn (now work) l) memo × (l .copied ≤ l .walk) × (l .walk + 2 ≤ l .variables) × (l .variables + length (now flex) ≤ length (now work)) ⌝ }
+    ensures { λ r. ⌜ Begins (now (work .entry)) (now (work .exit)) (now (flex .entry)) l (p .0) r ⌝ }
+{
+    let from = l.copied;
+    let at = l.walk;
+    let fresh = memo.clear(&mut work[from..at]);
+    let first = l.variables;
+    let last = first + flex.len();
+    zero_words(&mut work[first..last]);
+    work[at] = p.0;
+    work[at + 1] = 0;
+    fresh
+}
+
+// A fresh copy of pattern `p`, with variables of its own.
+pub fn copy(
+    work: &mut [u32],
+    words: &[u32],
+    cells: &mut [u32],
+    l: Copying,
+    st: Store,
+    memo: Memo,
+    g: Graph,
+    flex: &[u32],
+    p: Pattern,
+) -> Copied
+    requires { ⌜ Given (now work) (now words) (now cells) (now flex) l st memo g × (p .0 < length (nodes (now words) st)) ⌝ }
+    ensures { λ r. ⌜ Copies (now (work .entry)) (now (work .exit)) (now (words .entry)) (now (cells .entry)) (now (cells .exit)) (now (flex .entry)) l st g (p .0) r ⌝ }
+{
+    let fresh = begin(work, l, memo, flex, p);
+    match run(work, words, cells, l, st, fresh, g, flex) {
+        Turn::On(_, h) => Copied::At(Node(copy_of(work, l, fresh, p.0)), h, fresh),
+        Turn::Short => Copied::Short,
+    }
+}
