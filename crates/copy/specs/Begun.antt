@@ -1,36 +1,17 @@
 -- The beginning of a copy: the memo cleared, the variables' words zeroed, one frame written.
 use mathlib.Core.Path.{_≡_, refl, sym, ap, _∙_, subst}
-use mathlib.Core.Bool.{Bool, true, false}
-use mathlib.Core.List.{List, [], _∷_, map}
-use mathlib.Core.Option.{Option, none, some}
-use Prim.Native.Nat.{ℕ, zero, suc, _+_, _*_, _-_, _/_, _≤_, _<_}
-use native.Mathlib.Numerals.{add-one}
+use mathlib.Core.List.{List}
+use mathlib.Core.Option.{Option, none}
+use Prim.Native.Nat.{ℕ, zero, suc, _+_, _-_, _≤_}
 use native.Mathlib.Omega.{arith}
-use borrow.Author.Tests.{eqb-true, eqb-false, eq-eqb, ne-eqb}
-use lib.Dec.{eqb, ltb}
-use lib.ListN.{length, getD, set, take, drop, replicate, length-set, length-map, length-drop, length-replicate, getD-replicate, List·getD-eq-default, List·getD-map}
-use lib.Seq.{getD-set-same, getD-set-other, getD-drop, take-all}
-use Rattle.definition.specs.Test.{is, see, tests, _and_}
-use Rattle.definition.specs.Store.{isVariable, variableHead, below}
-use Rattle.definition.specs.Good.{Below}
-use Rattle.definition.specs.Graph.{Vertex, Graph, variableVertex}
-use Rattle.definition.specs.Classes.{isSome}
-use Rattle.base.specs.Part.{part, put, length-part, part-at, part-same, length-put, part-put, put-before, put-at, put-behind, take-copied}
-use Rattle.store.specs.Words.{nodeWith}
-use Rattle.store.specs.Recall.{recall, known, Remembers}
+use lib.ListN.{length, getD, set, replicate, length-set, length-replicate}
+use lib.Seq.{getD-set-same, getD-set-other}
+use Rattle.base.specs.Part.{part, put}
+use Rattle.store.specs.Recall.{recall, Remembers}
 use Rattle.store.specs.declared.memo.Memo.{Memo}
-use Rattle.store.specs.declared.memo.Known.{Known}
-use Rattle.store.specs.declared.memo.Known.the-variants.{Value, Nothing}
-use Rattle.graph.specs.Cells.{markIn, rowsEnd, nodes-few}
-use Rattle.graph.specs.Links.{Holds}
-use Rattle.graph.specs.Unifies.{many-nodes}
-use Rattle.graph.specs.Pushes.{Pushes}
-use Rattle.graph.specs.declared.graph.Graph.{Graph as Counts}
-use Rattle.graph.specs.declared.graph.Pushed.{Pushed}
-use Rattle.graph.specs.declared.graph.Pushed.the-variants.{At, Short}
-use Rattle.base.specs.declared.id.Node.{Node}
 use Rattle.copy.specs.declared.walk.Copying.{Copying}
-use Rattle.copy.specs.Held.{indexIn, tableIn, rowsAt, rowsIn, valueIn, orZero, copyIn, markAt, marksIn, Apart, Outside, noted, Notes, Grows, Makes, Beside, Stays, Begins, Finishes, vertexFor, numberFor}
+use Rattle.copy.specs.Held.{tableIn}
+use Rattle.copy.specs.Steps.{Outside, Begins}
 use Rattle.copy.specs.Writes.{outside-then, outside-wider, outside-set, outside-put, back, back-at, part-ahead}
 
 module _ (work flex : List ℕ) (l : Copying) (p : ℕ) (memo : Memo) (up : l .copied ≤ l .walk) (room : l .walk + 2 ≤ l .variables) (fits : l .variables + length flex ≤ length work)

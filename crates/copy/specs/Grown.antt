@@ -1,21 +1,21 @@
 -- One node's copy is the definition's: what the words hold then.
 use mathlib.Core.Path.{_≡_, refl, sym, ap, ap₂, _∙_, subst}
-use mathlib.Core.Bool.{Bool, true, false}
+use mathlib.Core.Bool.{true, false}
 use mathlib.Core.List.{List, [], _∷_, _++_, map}
 use mathlib.Core.Option.{Option, none, some}
-use Prim.Native.Nat.{ℕ, zero, suc, _+_, _*_, _-_, _/_, _≤_, _<_}
+use Prim.Native.Nat.{ℕ, suc, _+_, _*_, _-_, _/_, _≤_, _<_}
 use native.Mathlib.Omega.{arith}
 use borrow.Author.Tests.{eqb-true, eqb-false, eq-eqb, ne-eqb}
 use lib.Dec.{eqb}
-use lib.ListN.{length, getD, set, drop, length-append}
+use lib.ListN.{length, getD, set, length-append}
 use lib.Seq.{getD-set-same, getD-set-other}
-use Rattle.definition.specs.Test.{is, see, never}
+use Rattle.definition.specs.Test.{is, see}
 use Rattle.definition.specs.Pack.{Node, noNode}
 use Rattle.definition.specs.Store.{isVariable, variableHead, below}
 use Rattle.definition.specs.Good.{Below}
 use Rattle.definition.specs.Laws.Grow.{below-more}
 use Rattle.definition.specs.Verdict.{Bound, valueOf}
-use Rattle.definition.specs.Graph.{Vertex, Graph, variableVertex, applied, cells, push}
+use Rattle.definition.specs.Graph.{Vertex, Graph, applied, cells, push}
 use Rattle.definition.specs.Analysis.{copied, Copy, pairing, copyNode}
 use Rattle.definition.specs.Classes.{isSome}
 use Rattle.theory.specs.Copies.Terms.{below-applied}
@@ -25,19 +25,19 @@ use Rattle.theory.specs.Walks.Walk.{Known}
 use Rattle.theory.specs.Walks.Memo.{has, has-value}
 use Rattle.theory.specs.Walks.CopyWalk.{isCopied, copyAt}
 use Rattle.base.specs.Part.{part, part-same, length-part}
-use Rattle.base.specs.declared.id.Node.{Node as Id}
 use Rattle.store.specs.Words.{keyOf, words-most, begins-long}
 use Rattle.store.specs.Stored.{Stored, nodes}
 use Rattle.store.specs.Recall.{recall, length-recall, Remembers}
 use Rattle.store.specs.declared.nodes.Store.{Store}
 use Rattle.store.specs.declared.memo.Memo.{Memo}
-use Rattle.graph.specs.Cells.{Shows, rowsEnd}
-use Rattle.graph.specs.Unifies.{Inner, inner-more}
-use Rattle.graph.specs.declared.graph.Graph.{Graph as Counts}
-use Rattle.graph.specs.declared.graph.Pushed.the-variants.{At, Short}
+use Rattle.graph.specs.Cells.{Shows}
+use Rattle.graph.specs.Unifies.{inner-more}
 use Rattle.copy.specs.declared.walk.Copying.{Copying}
-use Rattle.copy.specs.Held.{indexIn, tableIn, rowsAt, rowsIn, Apart, Room, Patterns, marksIn, valueIn, orZero, copyIn, wordOf, Holding, Outside, noted, Notes, Beside, Stays, vertexFor, numberFor, Arguments, Key, Finishes}
+use Rattle.copy.specs.Held.{indexIn, tableIn, rowsAt, rowsIn, Apart, Room, Patterns, marksIn, valueIn, orZero, copyIn, wordOf, Holding, Beside}
+use Rattle.copy.specs.Steps.{Outside, noted, vertexFor, numberFor, Key, Finished, Unfinished}
 use Rattle.copy.specs.Writes.{part-ahead, part-after}
+use Rattle.base.specs.declared.id.Node.{Node as Id}
+use Rattle.graph.specs.declared.graph.Graph.{Graph as Counts}
 
 -- ---- numbers that are nodes
 -- there are no more nodes than there are two words for
@@ -167,11 +167,11 @@ module _ (work words cells₀ flex : List ℕ) (l : Copying) (st : Store) (memo 
     ]
 
     -- there is no room for it
-    pub short-more : (work′ cells′ : List ℕ) → Finishes work work′ cells₀ cells′ flex l memo g p (keyOf m) Short → length cells₀ < cells (copyAt (nodes words st) (marksIn flex) p c .graph)
+    pub short-more : (work′ cells′ : List ℕ) → Unfinished work work′ cells₀ cells′ flex l memo g (keyOf m) → length cells₀ < cells (copyAt (nodes words st) (marksIn flex) p c .graph)
     short-more work′ cells′ F = let e = ap (λ (d : Copy). cells (d .graph)) copy-grown in omega (arith, F .0 (c .graph) (H .shows), cells-more (c .graph) w)
 
     -- it is held
-    module _ (work′ cells′ : List ℕ) (x : Id) (g′ : Counts) (F : Finishes work work′ cells₀ cells′ flex l memo g p (keyOf m) (At x g′)) (long : length cells′ ≡ length cells₀) (given : p < length (nodes words st)) (k : Known isCopied c (kidsIn (nodes words st) p)) where
+    module _ (work′ cells′ : List ℕ) (x : Id) (g′ : Counts) (F : Finished work work′ cells₀ cells′ flex l memo g p (keyOf m) x g′) (long : length cells′ ≡ length cells₀) (given : p < length (nodes words st)) (k : Known isCopied c (kidsIn (nodes words st) p)) where
       abbrev B : Beside work work′ cells₀ l
       B = F .1 .beside
 

@@ -4,37 +4,28 @@ use mathlib.Core.Bool.{Bool, true, false}
 use mathlib.Core.List.{List, [], _∷_, map}
 use mathlib.Core.Option.{Option, none, some}
 use Prim.Native.Nat.{ℕ, zero, suc, _+_, _*_, _-_, _/_, _≤_, _<_}
-use lib.Dec.{eqb}
-use lib.ListN.{length, getD, set, drop}
+use lib.ListN.{length, getD}
 use Rattle.definition.specs.Pack.{Node, noNode}
-use Rattle.definition.specs.Store.{isVariable, variableHead}
-use Rattle.definition.specs.Good.{Below}
+use Rattle.definition.specs.Store.{isVariable}
 use Rattle.definition.specs.Verdict.{valueOf}
-use Rattle.definition.specs.Graph.{Vertex, Graph, variableVertex, applied, cells}
+use Rattle.definition.specs.Graph.{Graph, cells}
 use Rattle.definition.specs.Analysis.{copied, Copy, copy}
 use Rattle.theory.specs.Copies.Terms.{Earlier}
 use Rattle.theory.specs.Copies.Parts.{kidsIn, kids-fall, kids-inside}
-use Rattle.theory.specs.Walks.Machine.{Frame, frame, Walking, turn, left, Stacked}
+use Rattle.theory.specs.Walks.Machine.{Frame, frame, Stacked}
 use Rattle.theory.specs.Walks.WalkReady.{Sound}
 use Rattle.theory.specs.Walks.CopyWalk.{isCopied, copyAt, copy-made, copy-others}
 use Rattle.base.specs.Part.{part}
-use Rattle.base.specs.declared.id.Node.{Node as Id}
-use Rattle.store.specs.Words.{keyOf}
 use Rattle.store.specs.Stored.{Stored, nodes}
 use Rattle.store.specs.Recall.{recall, Remembers}
 use Rattle.store.specs.declared.nodes.Store.{Store}
 use Rattle.store.specs.declared.memo.Memo.{Memo}
-use Rattle.graph.specs.Cells.{markIn, rowsEnd, Laid, Shows}
-use Rattle.graph.specs.Pushes.{Pushes}
+use Rattle.graph.specs.Cells.{markIn, rowsEnd, Shows}
 use Rattle.graph.specs.Unifies.{Inner, HoldsInner}
-use Rattle.graph.specs.declared.graph.Graph.{Graph as Counts}
-use Rattle.graph.specs.declared.graph.Pushed.{Pushed}
-use Rattle.graph.specs.declared.graph.Pushed.the-variants as pushed
 use Rattle.copy.specs.declared.walk.Copying.{Copying}
-use Rattle.copy.specs.declared.walk.Turn.{Turn}
-use Rattle.copy.specs.declared.walk.Turn.the-variants as turns
 use Rattle.copy.specs.declared.walk.Copied.{Copied}
 use Rattle.copy.specs.declared.walk.Copied.the-variants as answers
+use Rattle.graph.specs.declared.graph.Graph.{Graph as Counts}
 
 -- ---- the regions
 -- the store's index
@@ -56,7 +47,7 @@ rowsIn work words l = part (l .graph) (rowsAt words l - l .graph) work
 abbrev pub graphIn : List ℕ → Copying → List ℕ
 graphIn work l = part (l .graph) (l .end - l .graph) work
 
--- they stand one behind the other, with room for so many cells and so many variables
+-- what the leaves ask of them: they stand one behind the other, with room for so many cells and so many variables
 pub record Apart (work cells flex : List ℕ) (l : Copying) : Type 0 where
   pub index : l .index ≤ l .copied
   pub table : l .copied ≤ l .walk
@@ -125,11 +116,18 @@ abbrev pub Ready : List ℕ → List ℕ → List ℕ → List ℕ → Copying �
 Ready work words cells flex l st memo g top = (P : Patterns (nodes words st)) × (c : Copy) × Going work words cells flex l st memo P g top c
 
 -- ---- what `copy` asks and answers
-pub record Given (work words cells flex : List ℕ) (l : Copying) (st : Store) (memo : Memo) (g : Counts) : Type 0 where
-  pub apart : Apart work cells flex l
-  pub room : Room words l
-  pub ends : rowsAt cells l ≤ l .end
+-- the regions stand one behind the other and fit
+pub record Laid (work words cells flex : List ℕ) (l : Copying) : Type 0 where
+  pub index : l .index ≤ l .copied
+  pub table : l .copied + 2 * (length words / 2) ≤ l .walk
+  pub stack : l .walk + 2 * (length words / 2) ≤ l .variables
+  pub marks : l .variables + length flex ≤ l .graph
+  pub rows : rowsAt cells l ≤ l .end
   pub inside : l .end ≤ length work
+
+-- and hold the store, a memo and an inner graph
+pub record Given (work words cells flex : List ℕ) (l : Copying) (st : Store) (memo : Memo) (g : Counts) : Type 0 where
+  pub laid : Laid work words cells flex l
   pub stored : Stored (indexIn work l) words st
   pub patterns : Patterns (nodes words st)
   pub remembers : Remembers (tableIn work l) memo
@@ -155,93 +153,3 @@ Copies work work′ words cellsₒ cells′ flex l st g p (answers.At x g′ mem
     × Remembers (tableIn work′ l) memo′ × Beside work work′ cellsₒ l
 Copies work work′ words cellsₒ cells′ flex l st g p answers.Short =
     ((h : Graph) → Shows cellsₒ (graphIn work l) g h → Inner h → length cellsₒ < cells (copy (nodes words st) (marksIn flex) h p .graph)) × Beside work work′ cellsₒ l
-
--- ---- between the crate's own functions
--- the words outside of a part are as they were
-pub record Outside (a b : ℕ) (work work′ : List ℕ) : Type 0 where
-  pub long : length work′ ≡ length work
-  pub before : (i : ℕ) → i < a → getD work′ i 0 ≡ getD work i 0
-  pub behind : (i : ℕ) → b ≤ i → getD work′ i 0 ≡ getD work i 0
-
--- a class variable's mark; beyond the last there is none
-abbrev pub markAt : List ℕ → ℕ → Bool
-markAt flex k = getD (marksIn flex) k false
-
--- a variable's word once variable k, if one, was copied to node x
-abbrev pub noted : Option ℕ → ℕ → ℕ → ℕ → ℕ
-noted none x j w = w
-noted (some k) x j w = elim (eqb k j) [ true ↦ suc x | false ↦ w ]
-
-abbrev pub Notes : List ℕ → List ℕ → List ℕ → Copying → Option ℕ → ℕ → Type 0
-Notes work work′ flex l o x = (j : ℕ) → j < length flex → getD work′ (l .variables + j) 0 ≡ noted o x j (getD work (l .variables + j) 0)
-
--- a node more in the graph
-abbrev pub Grows : List ℕ → List ℕ → List ℕ → List ℕ → Copying → Counts → Vertex → Pushed → Type 0
-Grows work work′ cells cells′ l g v r = Pushes cells cells′ (rowsIn work cells l) (rowsIn work′ cells l) g v r × Outside (l .graph) (rowsAt cells l) work work′
-
--- a node more in the graph, the copy of the variable that o names or of none
-abbrev pub Makes : List ℕ → List ℕ → List ℕ → List ℕ → List ℕ → Copying → Counts → Vertex → Option ℕ → Pushed → Type 0
-Makes work work′ cells cells′ flex l g v o (pushed.At x g′) = Pushes cells cells′ (rowsIn work cells l) (rowsIn work′ cells l) g v (pushed.At x g′) × Outside (l .variables) (rowsAt cells l) work work′ × Notes work work′ flex l o (x .0)
-Makes work work′ cells cells′ flex l g v o pushed.Short = Pushes cells cells′ (rowsIn work cells l) (rowsIn work′ cells l) g v pushed.Short × Outside (l .variables) (rowsAt cells l) work work′
-
--- what a node with a key is copied to, and the variable that it is
-abbrev pub vertexFor : List ℕ → Copying → Memo → List ℕ → List ℕ → Vertex
-vertexFor work l memo flex key = elim (eqb (getD key 0 0) variableHead) [ true ↦ variableVertex (getD key 2 0) (markAt flex (getD key 1 0)) false | false ↦ applied (getD key 0 0) (map (copyIn work l memo) (drop 1 key)) ]
-
-abbrev pub numberFor : List ℕ → Option ℕ
-numberFor key = elim (eqb (getD key 0 0) variableHead) [ true ↦ some (getD key 1 0) | false ↦ none ]
-
--- arguments that the memo has room for, and no more than 16
-pub record Arguments (work : List ℕ) (l : Copying) (memo : Memo) (key : List ℕ) : Type 0 where
-  pub some : 0 < length key
-  pub few : length key ≤ 17
-  pub known : Below (length (recall (tableIn work l) memo)) (drop 1 key)
-
--- a key that can be copied
-pub record Key (work : List ℕ) (l : Copying) (memo : Memo) (key : List ℕ) : Type 0 where
-  pub some : 0 < length key
-  pub variable : getD key 0 0 ≡ variableHead → length key ≡ 3
-  pub applied : (getD key 0 0 ≡ variableHead → ⊥) → Arguments work l memo key
-
--- the words beside the memo, the variables and the rows are as they were
-pub record Stays (work work′ cells : List ℕ) (l : Copying) : Type 0 where
-  pub beside : Beside work work′ cells l
-  pub stack : (i : ℕ) → l .walk ≤ i → i < l .variables → getD work′ i 0 ≡ getD work i 0
-
-abbrev pub Finishes : List ℕ → List ℕ → List ℕ → List ℕ → List ℕ → Copying → Memo → Counts → ℕ → List ℕ → Pushed → Type 0
-Finishes work work′ cells cells′ flex l memo g p key (pushed.At x g′) =
-    Pushes cells cells′ (rowsIn work cells l) (rowsIn work′ cells l) g (vertexFor work l memo flex key) (pushed.At x g′)
-    × Stays work work′ cells l × Notes work work′ flex l (numberFor key) (x .0)
-    × Remembers (tableIn work′ l) memo × (recall (tableIn work′ l) memo ≡ set (recall (tableIn work l) memo) p (some (x .0)))
-Finishes work work′ cells cells′ flex l memo g p key pushed.Short = Pushes cells cells′ (rowsIn work cells l) (rowsIn work′ cells l) g (vertexFor work l memo flex key) pushed.Short × Stays work work′ cells l
-
--- one turn of the machine
-abbrev pub turnOf : List ℕ → List ℕ → List ℕ → Copying → Store → ℕ → Copy → Walking Copy
-turnOf work words flex l st top c = turn (kidsIn (nodes words st)) isCopied (copyAt (nodes words st) (marksIn flex)) (framesIn work (l .walk) top) c
-
-abbrev pub Advances : List ℕ → List ℕ → List ℕ → List ℕ → List ℕ → List ℕ → Copying → Store → Memo → Counts → ℕ → Turn → Type 0
-Advances work work′ words cells cells′ flex l st memo g top (turns.On k g′) =
-    ((P : Patterns (nodes words st)) (c : Copy) → Going work words cells flex l st memo P g (suc top) c
-    → Going work′ words cells′ flex l st memo P g′ k (turnOf work words flex l st (suc top) c .state) × (framesIn work′ (l .walk) k ≡ turnOf work words flex l st (suc top) c .stack))
-    × Beside work work′ cells l
-Advances work work′ words cellsₒ cells′ flex l st memo g top turns.Short =
-    ((P : Patterns (nodes words st)) (c : Copy) → Going work words cellsₒ flex l st memo P g (suc top) c → length cellsₒ < cells (turnOf work words flex l st (suc top) c .state .graph)) × Beside work work′ cellsₒ l
-
--- what the frames still give
-abbrev pub leftOf : List ℕ → List ℕ → List ℕ → Copying → Store → ℕ → Copy → Copy
-leftOf work words flex l st top c = left (kidsIn (nodes words st)) isCopied (copyAt (nodes words st) (marksIn flex)) (length (nodes words st)) (framesIn work (l .walk) top) c
-
-abbrev pub Runs : List ℕ → List ℕ → List ℕ → List ℕ → List ℕ → List ℕ → Copying → Store → Memo → Counts → ℕ → Turn → Type 0
-Runs work work′ words cells cells′ flex l st memo g top (turns.On k g′) =
-    ((P : Patterns (nodes words st)) (c : Copy) → Going work words cells flex l st memo P g top c → Holding work′ words cells′ flex l st memo g′ (leftOf work words flex l st top c)) × Beside work work′ cells l
-Runs work work′ words cellsₒ cells′ flex l st memo g top turns.Short =
-    ((P : Patterns (nodes words st)) (c : Copy) → Going work words cellsₒ flex l st memo P g top c → length cellsₒ < cells (leftOf work words flex l st top c .graph)) × Beside work work′ cellsₒ l
-
--- the memo is empty, no variable is noted, and there is one frame; beside them nothing has changed
-pub record Begins (work work′ flex : List ℕ) (l : Copying) (p : ℕ) (memo : Memo) : Type 0 where
-  pub outside : Outside (l .copied) (l .variables + length flex) work work′
-  pub remembers : Remembers (tableIn work′ l) memo
-  pub empty : (q : ℕ) → valueIn work′ l memo q ≡ none
-  pub node : getD work′ (l .walk) 0 ≡ p
-  pub taken : getD work′ (l .walk + 1) 0 ≡ 0
-  pub variables : (k : ℕ) → k < length flex → getD work′ (l .variables + k) 0 ≡ 0

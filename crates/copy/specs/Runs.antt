@@ -1,33 +1,34 @@
 -- The turns together: what is left gives the whole, and fewer turns are left with each.
 use mathlib.Core.Path.{_≡_, refl, sym, ap, ap₂, _∙_, subst}
 use mathlib.Core.Bool.{Bool, true, false}
-use mathlib.Core.List.{List, [], _∷_, _++_, map}
-use mathlib.Core.Option.{Option, none, some}
-use Prim.Native.Nat.{ℕ, zero, suc, _+_, _*_, _-_, _≤_, _<_}
+use mathlib.Core.List.{List, map}
+use mathlib.Core.Option.{Option, none}
+use Prim.Native.Nat.{ℕ, suc, _+_, _*_, _-_, _≤_, _<_}
 use native.Mathlib.Omega.{arith}
 use lib.ListN.{length, getD}
 use Rattle.definition.specs.Test.{is, see}
 use Rattle.definition.specs.Pack.{Node, noNode}
 use Rattle.definition.specs.Store.{isVariable}
-use Rattle.definition.specs.Graph.{Vertex, variableVertex, applied, cells, push}
+use Rattle.definition.specs.Graph.{variableVertex, applied, cells, push}
 use Rattle.definition.specs.Analysis.{Copy, copied, copyNode}
 use Rattle.definition.specs.Classes.{isSome}
 use Rattle.theory.specs.Copies.Parts.{kidsIn, kids-fall, kids-inside}
-use Rattle.theory.specs.Walks.Machine.{Frame, frame, Walking, left, turn-kept, left-none}
+use Rattle.theory.specs.Walks.Machine.{Frame, frame, left, turn-kept, left-none}
 use Rattle.theory.specs.Walks.WalkOnce.{unfinished}
 use Rattle.theory.specs.Walks.CopyWalk.{isCopied, copyAt, copy-made, copy-others}
 use Rattle.store.specs.Stored.{nodes}
 use Rattle.store.specs.Recall.{recall}
 use Rattle.store.specs.declared.nodes.Store.{Store}
 use Rattle.store.specs.declared.memo.Memo.{Memo}
-use Rattle.graph.specs.declared.graph.Graph.{Graph as Counts}
 use Rattle.copy.specs.declared.walk.Copying.{Copying}
 use Rattle.copy.specs.declared.walk.Turn.the-variants as turns
-use Rattle.copy.specs.Held.{tableIn, Patterns, marksIn, Holding, framesIn, Going, Ready, Beside, turnOf, leftOf, Advances, Runs}
+use Rattle.copy.specs.Held.{tableIn, Patterns, marksIn, Holding, framesIn, Going, Ready, Beside}
+use Rattle.copy.specs.Steps.{turnOf, leftOf, Advances, Runs}
 use Rattle.copy.specs.Grown.{copied-is, cells-more}
 use Rattle.copy.specs.Turns.{length-frames}
 use Rattle.copy.specs.Ways.{beside-none, beside-then}
 use Rattle.copy.specs.Measure.{took, unfinished-same, most, turn-less, left-grows}
+use Rattle.graph.specs.declared.graph.Graph.{Graph as Counts}
 
 -- ---- the measure
 -- whether the memo has a node

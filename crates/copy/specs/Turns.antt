@@ -2,40 +2,33 @@
 use mathlib.Core.Path.{_≡_, refl, sym, ap, ap₂, _∙_, subst}
 use mathlib.Core.Bool.{Bool, true, false}
 use mathlib.Core.List.{List, [], _∷_}
-use mathlib.Core.Option.{Option, none, some}
-use Prim.Native.Nat.{ℕ, zero, suc, _+_, _*_, _-_, _/_, _≤_, _<_}
+use Prim.Native.Nat.{ℕ, zero, suc, _+_, _*_, _/_, _≤_, _<_}
 use native.Mathlib.Numerals.{add-one}
 use native.Mathlib.Omega.{arith}
 use borrow.Author.Tests.{lt-ltb, le-ltb}
-use lib.Dec.{eqb, ltb}
+use lib.Dec.{eqb}
 use lib.ListN.{length, getD, set, length-set}
 use lib.Seq.{getD-set-same, getD-set-other}
-use Rattle.definition.specs.Test.{is, see, never, _and_}
+use Rattle.definition.specs.Test.{is, _and_}
 use Rattle.definition.specs.Pack.{Node, noNode}
-use Rattle.definition.specs.Store.{isVariable, below}
-use Rattle.definition.specs.Graph.{cells}
 use Rattle.definition.specs.Analysis.{Copy}
 use Rattle.definition.specs.Classes.{isSome}
-use Rattle.theory.specs.Copies.Terms.{below-variable, below-applied}
 use Rattle.theory.specs.Copies.Parts.{kidsIn, kids-fall, kids-inside}
 use Rattle.theory.specs.Walks.Walk.{Known}
 use Rattle.theory.specs.Walks.Machine.{Frame, frame, Walking, walking, turn, Stacked, height, turn-kept}
-use Rattle.theory.specs.Walks.WalkReady.{Sound, Goes, turn-going}
+use Rattle.theory.specs.Walks.WalkReady.{Sound, turn-going}
 use Rattle.theory.specs.Walks.CopyWalk.{isCopied, copyAt, copy-made, copy-others}
-use Rattle.base.specs.declared.id.Node.{Node as Id}
-use Rattle.store.specs.Words.{keyOf, nodeWith}
-use Rattle.store.specs.Stored.{Stored, nodes}
+use Rattle.store.specs.Words.{keyOf}
+use Rattle.store.specs.Stored.{nodes}
 use Rattle.store.specs.Recall.{recall}
 use Rattle.store.specs.declared.nodes.Store.{Store}
 use Rattle.store.specs.declared.memo.Memo.{Memo}
-use Rattle.graph.specs.declared.graph.Graph.{Graph as Counts}
-use Rattle.graph.specs.declared.graph.Pushed.{Pushed}
-use Rattle.graph.specs.declared.graph.Pushed.the-variants.{At, Short}
 use Rattle.copy.specs.declared.walk.Copying.{Copying}
-use Rattle.copy.specs.declared.walk.Turn.the-variants as turns
-use Rattle.copy.specs.Held.{tableIn, rowsAt, Patterns, marksIn, valueIn, Holding, framesIn, Going, Ready, Outside, Beside, Finishes, Key, turnOf, Advances}
+use Rattle.copy.specs.Held.{tableIn, Patterns, marksIn, valueIn, Holding, framesIn, Going}
+use Rattle.copy.specs.Steps.{Outside, Key, turnOf}
 use Rattle.copy.specs.Writes.{outside-then, outside-set}
-use Rattle.copy.specs.Grown.{nodes-most, memo-room, key-copied, holding-stack, copied-is, short-more, holding-more}
+use Rattle.copy.specs.Grown.{nodes-most, memo-room, key-copied, copied-is}
+use Rattle.graph.specs.declared.graph.Graph.{Graph as Counts}
 
 -- ---- the frames
 -- as many as are counted

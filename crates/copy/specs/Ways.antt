@@ -1,42 +1,38 @@
 -- What each way of a turn answers, whatever walk is under way.
-use mathlib.Core.Path.{_≡_, refl, sym, ap, ap₂, _∙_, subst}
+use mathlib.Core.Path.{_≡_, refl, sym, ap, _∙_, subst}
 use mathlib.Core.Bool.{Bool, true, false}
-use mathlib.Core.List.{List, [], _∷_}
-use mathlib.Core.Option.{Option, none, some}
-use Prim.Native.Nat.{ℕ, zero, suc, _+_, _*_, _-_, _/_, _≤_, _<_}
+use mathlib.Core.List.{List, _∷_}
+use mathlib.Core.Option.{some}
+use Prim.Native.Nat.{ℕ, suc, _+_, _*_, _≤_, _<_}
 use native.Mathlib.Numerals.{add-one}
 use native.Mathlib.Omega.{arith}
-use borrow.Author.Tests.{lt-ltb, le-ltb}
-use lib.Dec.{eqb, ltb}
-use lib.ListN.{length, getD, set, length-set}
-use lib.Seq.{getD-set-same, getD-set-other}
-use Rattle.definition.specs.Test.{is, see, never, _and_}
+use lib.Dec.{eqb}
+use lib.ListN.{length, getD}
+use Rattle.definition.specs.Test.{is, see, _and_}
 use Rattle.definition.specs.Pack.{Node, noNode}
 use Rattle.definition.specs.Store.{isVariable, below}
 use Rattle.definition.specs.Graph.{cells}
 use Rattle.definition.specs.Analysis.{Copy}
 use Rattle.definition.specs.Classes.{isSome}
 use Rattle.theory.specs.Copies.Terms.{below-variable, below-applied}
-use Rattle.theory.specs.Copies.Parts.{kidsIn, kids-fall, kids-inside}
-use Rattle.theory.specs.Walks.Walk.{Known}
-use Rattle.theory.specs.Walks.Machine.{Frame, frame, Walking, walking, turn, Stacked, height, turn-kept}
-use Rattle.theory.specs.Walks.WalkReady.{Sound, Goes, turn-going}
-use Rattle.theory.specs.Walks.CopyWalk.{isCopied, copyAt, copy-made, copy-others}
-use Rattle.base.specs.declared.id.Node.{Node as Id}
+use Rattle.theory.specs.Copies.Parts.{kidsIn}
+use Rattle.theory.specs.Walks.Machine.{frame, Walking, turn}
+use Rattle.theory.specs.Walks.CopyWalk.{copyAt}
 use Rattle.store.specs.Words.{keyOf, nodeWith}
-use Rattle.store.specs.Stored.{Stored, nodes}
+use Rattle.store.specs.Stored.{nodes}
 use Rattle.store.specs.Recall.{recall}
 use Rattle.store.specs.declared.nodes.Store.{Store}
 use Rattle.store.specs.declared.memo.Memo.{Memo}
-use Rattle.graph.specs.declared.graph.Graph.{Graph as Counts}
-use Rattle.graph.specs.declared.graph.Pushed.{Pushed}
-use Rattle.graph.specs.declared.graph.Pushed.the-variants.{At, Short}
 use Rattle.copy.specs.declared.walk.Copying.{Copying}
 use Rattle.copy.specs.declared.walk.Turn.the-variants as turns
-use Rattle.copy.specs.Held.{tableIn, rowsAt, Patterns, marksIn, valueIn, Holding, framesIn, Going, Ready, Outside, Beside, Finishes, Key, turnOf, Advances}
-use Rattle.copy.specs.Writes.{outside-then, outside-set}
-use Rattle.copy.specs.Grown.{nodes-most, memo-room, key-copied, holding-stack, copied-is, short-more, holding-more}
+use Rattle.store.specs.Recall.{Remembers}
+use Rattle.graph.specs.Links.{Holds}
+use Rattle.copy.specs.declared.walk.Turn.{Turn}
+use Rattle.copy.specs.Held.{tableIn, rowsIn, Apart, marksIn, valueIn, framesIn, Ready, Beside}
+use Rattle.copy.specs.Steps.{Finished, Unfinished, Finishes, Deeper, Deepens, Key, Advances}
+use Rattle.copy.specs.Grown.{holding-stack, short-more, holding-more}
 use Rattle.copy.specs.Turns.{turn-inside, turn-known, turn-key, frames-same, entering, entering-outside, entering-frames, turn-room, turn-given, going-on, dropped, entered, finished, entered-room, all-known}
+use Rattle.graph.specs.declared.graph.Graph.{Graph as Counts}
 
 -- nothing was written
 pub beside-none : (work cells : List ℕ) (l : Copying) → Beside work work cells l
@@ -83,13 +79,13 @@ module _ (work words cells₀ flex : List ℕ) (l : Copying) (st : Store) (memo 
 
   -- it stays
   module _ (R : Ready work words cells₀ flex l st memo g (suc top)) (b : Bool) (e : b ≡ (eqb taken 0 and isSome (valueIn work l memo p))) (f : b ≡ false)
-      (key : List ℕ) (K : key ≡ keyOf n) (r : ℕ) (k : r ≡ length (below (nodeWith key))) where
-    kids-are : r ≡ length (kidsIn s p)
+      (key : List ℕ) (K : key ≡ keyOf n) where
+    kids-are : length (below (nodeWith key)) ≡ length (kidsIn s p)
     unfolding nodeWith
-    kids-are = k ∙ ap (λ (xs : List ℕ). length (below (nodeWith xs))) K
+    kids-are = ap (λ (xs : List ℕ). length (below (nodeWith xs))) K
 
     -- an argument is left
-    module _ (h : taken < r) where
+    module _ (h : taken < length (below (nodeWith key))) where
       left-over : taken < length (kidsIn s p)
       left-over = omega (arith, kids-are)
 
@@ -99,13 +95,13 @@ module _ (work words cells₀ flex : List ℕ) (l : Copying) (st : Store) (memo 
         | is false v ↦ v
       ]
 
-      pub taken-few : taken < 16
-      taken-few = omega (arith, left-over, ap length (below-applied n no-variable), R .0 .few p (turn-given work words cells₀ flex l st memo g top (R .0) (R .1) (R .2)) no-variable)
+      taken-few : taken < 16
+      taken-few = omega (arith, left-over, ap length (below-applied n no-variable), R .0 .few p (ready-given R) no-variable)
 
-      pub taken-key : taken + 1 < length key
+      taken-key : taken + 1 < length key
       taken-key = omega (arith, left-over, ap length (below-applied n no-variable), ap length K)
 
-      pub enter-room : at + 3 < l .variables
+      enter-room : at + 3 < l .variables
       enter-room = omega (arith, entered-room work words cells₀ flex l st memo g top (R .0) (R .1) (R .2) b e f left-over, R .2 .holds .room .stack)
 
       pub enter-inside : at + 3 < length work
@@ -114,8 +110,8 @@ module _ (work words cells₀ flex : List ℕ) (l : Copying) (st : Store) (memo 
       next-is : getD key (taken + 1) 0 ≡ getD (kidsIn s p) taken 0
       next-is = ap (λ (xs : List ℕ). getD xs (taken + 1) 0) K ∙ ap (λ (i : ℕ). getD (keyOf n) i 0) (add-one taken) ∙ ap (λ (xs : List ℕ). getD xs taken 0) (sym (below-applied n no-variable))
 
-      pub advance-entered : Advances work (entering work (l .walk) top (getD key (taken + 1) 0) taken) words cells₀ cells₀ flex l st memo g top (turns.On (top + 2) g)
-      advance-entered =
+      advance-entering : Advances work (entering work (l .walk) top (getD key (taken + 1) 0) taken) words cells₀ cells₀ flex l st memo g top (turns.On (top + 2) g)
+      advance-entering =
           let q = getD key (taken + 1) 0 in
           let O = entering-outside work (l .walk) top q taken (l .variables) enter-room in
           let two : top + 2 ≡ suc (suc top) = omega arith in
@@ -127,27 +123,53 @@ module _ (work words cells₀ flex : List ℕ) (l : Copying) (st : Store) (memo 
             record { long = O .long; ahead = λ i m. O .before i (omega (arith, A .table)); beyond = λ i m. O .behind i (omega (arith, A .marks)) },
           )
 
-    -- no argument is left, and the node was copied
-    module _ (h : r ≤ taken) (work′ cells′ : List ℕ) where
-      none-left : length (kidsIn s p) ≤ taken
-      none-left = omega (arith, kids-are)
+    pub ready-deeper : Deeper work at key
+    ready-deeper = record { some = omega (arith, ap length K); inside = ready-inside R; room = λ h. (enter-inside h, taken-few h, taken-key h) }
 
-      pub advance-made : length cells′ ≡ length cells₀ → (x : Id) (g′ : Counts) (q : Pushed) → q ≡ At x g′ → Finishes work work′ cells₀ cells′ flex l memo g p key q → Advances work work′ words cells₀ cells′ flex l st memo g top (turns.On top g′)
-      advance-made long x g′ q v F₀ =
-          let F = subst (λ (xs : List ℕ). Finishes work work′ cells₀ cells′ flex l memo g p xs (At x g′)) K (subst (λ (o : Pushed). Finishes work work′ cells₀ cells′ flex l memo g p key o) v F₀) in
-          let room = turn-room work words cells₀ flex l st memo g top (R .0) (R .1) (R .2) in (
-            λ P c G. going-on work words cells₀ flex l st memo g top P c G work′ cells′ g′ top (framesIn work (l .walk) top) (copyAt s (marksIn flex) p c)
-                (finished work words cells₀ flex l st memo g top P c G b e f none-left)
-                (holding-more work words cells₀ flex l st memo g c (G .holds) p work′ cells′ x g′ F long (turn-given work words cells₀ flex l st memo g top P c G) (all-known work words cells₀ flex l st memo g top P c G b e f none-left))
-                (frames-same work work′ (l .walk) top (λ i a m. F .1 .stack i a (omega (arith, room, R .2 .holds .room .stack)))),
-            F .1 .beside,
-          )
+    -- its next argument gets a frame
+    module _ (work₁ : List ℕ) (d : Bool) (D : Deepens work work₁ at key d) where
+      pub advance-room : d ≡ true → top + 2 < length work
+      advance-room t = let D₁ = subst (λ (o : Bool). Deepens work work₁ at key o) t D in omega (arith, enter-inside (D₁ .0))
 
-      pub advance-short : (q : Pushed) → q ≡ Short → Finishes work work′ cells₀ cells′ flex l memo g p key q → Advances work work′ words cells₀ cells′ flex l st memo g top turns.Short
-      advance-short q v F₀ =
-          let F = subst (λ (xs : List ℕ). Finishes work work′ cells₀ cells′ flex l memo g p xs Short) K (subst (λ (o : Pushed). Finishes work work′ cells₀ cells′ flex l memo g p key o) v F₀) in (
-            λ P c G.
-                let w = ap (λ (v : Walking Copy). cells (v .state .graph)) (finished work words cells₀ flex l st memo g top P c G b e f none-left) in
-                omega (arith, w, short-more work words cells₀ flex l st memo g c (G .holds) p work′ cells′ F),
-            F .1 .beside,
-          )
+      pub advance-entered : d ≡ true → Advances work work₁ words cells₀ cells₀ flex l st memo g top (turns.On (top + 2) g)
+      advance-entered t =
+          let D₁ = subst (λ (o : Bool). Deepens work work₁ at key o) t D in
+          subst (λ (xs : List ℕ). Advances work xs words cells₀ cells₀ flex l st memo g top (turns.On (top + 2) g)) (sym (D₁ .1)) (advance-entering (D₁ .0))
+
+      -- no argument is left: nothing was written
+      module _ (u : d ≡ false) where
+        D₂ : Deepens work work₁ at key false
+        D₂ = subst (λ (o : Bool). Deepens work work₁ at key o) u D
+
+        none-left : length (kidsIn s p) ≤ taken
+        none-left = omega (arith, kids-are, D₂ .0)
+
+        -- what copying its pattern asks
+        abbrev Ripe : List ℕ → Type 0
+        Ripe xs = Apart xs cells₀ flex l × Holds cells₀ (rowsIn xs cells₀ l) g × Key xs l memo key × Remembers (tableIn xs l) memo × (p < length (recall (tableIn xs l) memo))
+
+        pub ready-ripe : Ripe work₁
+        ready-ripe =
+            let H = R .2 .holds in
+            subst Ripe (sym (D₂ .1)) (H .apart, (R .1 .graph, H .shows), ready-key R key K, H .remembers, ready-known R)
+
+        pub advance-finished : (work′ cells′ : List ℕ) → length cells′ ≡ length cells₀ → (r : Turn) → Finishes work₁ work′ cells₀ cells′ flex l memo g p key top r → Advances work work′ words cells₀ cells′ flex l st memo g top r
+        advance-finished work′ cells′ long (turns.On k g′) F₀ =
+            let F₁ = subst (λ (xs : List ℕ). Finishes xs work′ cells₀ cells′ flex l memo g p key top (turns.On k g′)) (D₂ .1) F₀ in
+            let x = F₁ .1 in
+            let F = subst (λ (xs : List ℕ). Finished work work′ cells₀ cells′ flex l memo g p xs x g′) K (F₁ .2) in
+            let room = turn-room work words cells₀ flex l st memo g top (R .0) (R .1) (R .2) in
+            subst (λ (i : ℕ). Advances work work′ words cells₀ cells′ flex l st memo g top (turns.On i g′)) (sym (F₁ .0)) (
+              λ P c G. going-on work words cells₀ flex l st memo g top P c G work′ cells′ g′ top (framesIn work (l .walk) top) (copyAt s (marksIn flex) p c)
+                  (finished work words cells₀ flex l st memo g top P c G b e f none-left)
+                  (holding-more work words cells₀ flex l st memo g c (G .holds) p work′ cells′ x g′ F long (turn-given work words cells₀ flex l st memo g top P c G) (all-known work words cells₀ flex l st memo g top P c G b e f none-left))
+                  (frames-same work work′ (l .walk) top (λ i a m. F .1 .stack i a (omega (arith, room, R .2 .holds .room .stack)))),
+              F .1 .beside,
+            )
+        advance-finished work′ cells′ long turns.Short F₀ =
+            let F = subst (λ (xs : List ℕ). Unfinished work work′ cells₀ cells′ flex l memo g xs) K (subst (λ (xs : List ℕ). Unfinished xs work′ cells₀ cells′ flex l memo g key) (D₂ .1) F₀) in (
+              λ P c G.
+                  let w = ap (λ (v : Walking Copy). cells (v .state .graph)) (finished work words cells₀ flex l st memo g top P c G b e f none-left) in
+                  omega (arith, w, short-more work words cells₀ flex l st memo g c (G .holds) p work′ cells′ F),
+              F .1 .beside,
+            )

@@ -1,8 +1,7 @@
 -- The whole of a copy: what is held at its beginning, and what is answered at its end.
 use mathlib.Core.Path.{_≡_, refl, sym, ap, ap₂, _∙_, subst}
 use mathlib.Core.List.{List, [], _∷_}
-use mathlib.Core.Option.{Option, none, some}
-use Prim.Native.Nat.{ℕ, zero, suc, _+_, _*_, _-_, _≤_, _<_}
+use Prim.Native.Nat.{ℕ, suc, _+_, _*_, _-_, _≤_, _<_}
 use native.Mathlib.Omega.{arith}
 use lib.ListN.{length, getD}
 use Rattle.definition.specs.Test.{never}
@@ -16,21 +15,22 @@ use Rattle.theory.specs.Walks.Machine.{Frame, frame, Stacked, left, left-new, l
 use Rattle.theory.specs.Walks.WalkReady.{Sound, sound-new}
 use Rattle.theory.specs.Walks.CopyWalk.{noCopy, isCopied, copyAt, copy-made, copy-others, copy-walk}
 use Rattle.base.specs.Part.{part, part-at, length-part}
-use Rattle.base.specs.declared.id.Node.{Node as Id}
 use Rattle.store.specs.Stored.{Stored, nodes}
 use Rattle.store.specs.Recall.{recall}
 use Rattle.store.specs.declared.nodes.Store.{Store}
 use Rattle.store.specs.declared.memo.Memo.{Memo}
-use Rattle.graph.specs.Cells.{startIn, Shows, Laid, rowsEnd, nodes-few, graphIn as shown, graph-kept}
+use Rattle.graph.specs.Cells.{startIn, Shows, rowsEnd, nodes-few, graph-kept}
 use Rattle.graph.specs.Unifies.{Inner}
-use Rattle.graph.specs.declared.graph.Graph.{Graph as Counts}
 use Rattle.copy.specs.declared.walk.Copying.{Copying}
 use Rattle.copy.specs.declared.walk.Turn.{Turn}
 use Rattle.copy.specs.declared.walk.Turn.the-variants as turns
 use Rattle.copy.specs.declared.walk.Copied.the-variants as answers
-use Rattle.copy.specs.Held.{indexIn, tableIn, rowsAt, rowsIn, graphIn, copyIn, marksIn, Given, Holding, Going, Ready, framesIn, leftOf, Runs, Outside, Begins, Beside, Made, Copies}
+use Rattle.copy.specs.Held.{indexIn, tableIn, rowsAt, rowsIn, graphIn, copyIn, marksIn, Apart, Given, Holding, Going, Ready, framesIn, Beside, Copies}
+use Rattle.copy.specs.Steps.{leftOf, Runs, Begins}
 use Rattle.copy.specs.Writes.{part-ahead}
 use Rattle.copy.specs.Grown.{copy-is, memo-room}
+use Rattle.base.specs.declared.id.Node.{Node as Id}
+use Rattle.graph.specs.declared.graph.Graph.{Graph as Counts}
 
 -- ---- a graph is held by its rows, whatever stands behind them
 pub shows-by : (words table table′ : List ℕ) (s : Counts) (g : Graph) → rowsEnd words ≤ length table′ → ((i : ℕ) → i < rowsEnd words → getD table′ i 0 ≡ getD table i 0) → Shows words table s g → Shows words table′ s g
@@ -57,21 +57,24 @@ rows-part a b c m xs ys h k same i l = part-at a (c - a) ys i (omega arith) ∙ 
 
 module _ (work words cells₀ flex : List ℕ) (l : Copying) (st : Store) (memo : Memo) (g : Counts) (Y : Given work words cells₀ flex l st memo g) (p : ℕ) (given : p < length (nodes words st))
     (work₁ : List ℕ) (fresh : Memo) (B : Begins work work₁ flex l p fresh) where
+  apart : Apart work cells₀ flex l
+  apart = let L = Y .laid in record { index = L .index; table = omega (arith, L .table); stack = omega (arith, L .stack); marks = L .marks; rows = omega (arith, L .rows, L .inside) }
+
   -- ---- the beginning
   module _ (h : Graph) (S : Shows cells₀ (graphIn work l) g h) (I : Inner h) where
     first-held : Holding work₁ words cells₀ flex l st fresh g (noCopy h)
     unfolding valueOf
     first-held =
-        let A = Y .apart in
+        let A = apart in
         let O = B .outside in
         let i : indexIn work₁ l ≡ indexIn work l = part-ahead (l .copied) (l .variables + length flex) (l .index) (l .copied) work work₁ O (omega arith) (omega (arith, A .table, A .stack, A .marks, A .rows)) (A .index) in
         record {
           apart = record { index = A .index; table = A .table; stack = A .stack; marks = A .marks; rows = omega (arith, A .rows, O .long) };
-          room = Y .room;
+          room = record { table = Y .laid .table; stack = Y .laid .stack };
           stored = subst (λ (xs : List ℕ). Stored xs words st) (sym i) (Y .stored);
           remembers = B .remembers;
           shows = shows-by cells₀ (graphIn work l) (rowsIn work₁ cells₀ l) g h (omega (arith, length-part (l .graph) (rowsAt cells₀ l - l .graph) work₁ (omega (arith, A .rows, O .long))))
-              (rows-part (l .graph) (l .end) (rowsAt cells₀ l) (rowsEnd cells₀) work work₁ (Y .ends) (omega arith) (λ j a b. O .behind j (omega (arith, A .marks)))) S;
+              (rows-part (l .graph) (l .end) (rowsAt cells₀ l) (rowsEnd cells₀) work work₁ (Y .laid .rows) (omega arith) (λ j a b. O .behind j (omega (arith, A .marks)))) S;
           inner = I;
           values = B .empty;
           inside = λ q x e. never (cc);
@@ -115,7 +118,7 @@ module _ (work words cells₀ flex : List ℕ) (l : Copying) (st : Store) (memo 
     beside-both : Beside work₁ work₂ cells₀ l → Beside work work₂ cells₀ l
     beside-both N =
         let O = B .outside in
-        record { long = N .long ∙ O .long; ahead = λ i a. N .ahead i a ∙ O .before i a; beyond = λ i a. N .beyond i a ∙ O .behind i (omega (arith, Y .apart .marks)) }
+        record { long = N .long ∙ O .long; ahead = λ i a. N .ahead i a ∙ O .before i a; beyond = λ i a. N .beyond i a ∙ O .behind i (omega (arith, Y .laid .marks)) }
 
     pub copies-short : (r : Turn) → r ≡ turns.Short → Runs work₁ work₂ words cells₀ cells₂ flex l st fresh g 1 r → Copies work work₂ words cells₀ cells₂ flex l st g p answers.Short
     copies-short r e R₀ =
@@ -133,7 +136,7 @@ module _ (work words cells₀ flex : List ℕ) (l : Copying) (st : Store) (memo 
       any-held = held (Y .graph .0) (Y .graph .1) (Y .graph .2)
 
       pub end-table : l .copied ≤ l .walk
-      end-table = Y .apart .table
+      end-table = apart .table
 
       pub end-inside : l .walk ≤ length work₂
       end-inside = let A = any-held .apart in omega (arith, A .stack, A .marks, A .rows)
@@ -149,8 +152,8 @@ module _ (work words cells₀ flex : List ℕ) (l : Copying) (st : Store) (memo 
             let N = beside-both (R .1) in
             record {
               node = f ∙ copy-is work₂ words cells₂ flex l st fresh g′ d H p;
-              shows = shows-by cells₂ (rowsIn work₂ cells₂ l) (graphIn work₂ l) g′ (d .graph) (omega (arith, length-part (l .graph) (l .end - l .graph) work₂ (omega (arith, Y .ends, Y .inside, N .long)), Y .ends, long))
-                  (rows-part (l .graph) (rowsAt cells₂ l) (l .end) (rowsEnd cells₂) work₂ work₂ (omega arith) (omega (arith, Y .ends, long)) (λ i a b. refl)) (H .shows);
+              shows = shows-by cells₂ (rowsIn work₂ cells₂ l) (graphIn work₂ l) g′ (d .graph) (omega (arith, length-part (l .graph) (l .end - l .graph) work₂ (omega (arith, Y .laid .rows, Y .laid .inside, N .long)), Y .laid .rows, long))
+                  (rows-part (l .graph) (rowsAt cells₂ l) (l .end) (rowsEnd cells₂) work₂ work₂ (omega arith) (omega (arith, Y .laid .rows, long)) (λ i a b. refl)) (H .shows);
               inner = H .inner;
               variables = H .variables;
             },

@@ -2,35 +2,28 @@
 use mathlib.Core.Path.{_≡_, refl, sym, ap, _∙_, subst}
 use mathlib.Core.Bool.{Bool, true, false}
 use mathlib.Core.List.{List, [], _∷_, map}
-use mathlib.Core.Option.{Option, none, some}
-use Prim.Native.Nat.{ℕ, zero, suc, _+_, _*_, _-_, _/_, _≤_, _<_}
+use mathlib.Core.Option.{none, some}
+use Prim.Native.Nat.{ℕ, zero, suc, _+_, _-_, _≤_, _<_}
 use native.Mathlib.Numerals.{add-one}
 use native.Mathlib.Omega.{arith}
 use borrow.Author.Tests.{eqb-true, eqb-false, eq-eqb, ne-eqb}
-use lib.Dec.{eqb, ltb}
-use lib.ListN.{length, getD, set, take, drop, replicate, length-set, length-map, length-drop, length-replicate, getD-replicate, List·getD-eq-default, List·getD-map}
+use lib.Dec.{eqb}
+use lib.ListN.{length, getD, set, take, drop, length-set, length-map, length-drop, List·getD-eq-default}
 use lib.Seq.{getD-set-same, getD-set-other, getD-drop, take-all}
-use Rattle.definition.specs.Test.{is, see, tests, _and_}
+use Rattle.definition.specs.Test.{is, see, _and_}
 use Rattle.definition.specs.Store.{isVariable, variableHead, below}
 use Rattle.definition.specs.Good.{Below}
-use Rattle.definition.specs.Graph.{Vertex, Graph, variableVertex}
 use Rattle.definition.specs.Classes.{isSome}
-use Rattle.base.specs.Part.{part, put, length-part, part-at, part-same, length-put, part-put, put-before, put-at, put-behind, take-copied}
+use Rattle.base.specs.Part.{part, put, length-part, part-same, length-put, part-put, put-before, put-at, put-behind, take-copied}
 use Rattle.store.specs.Words.{nodeWith}
-use Rattle.store.specs.Recall.{recall, known, Remembers}
+use Rattle.store.specs.Recall.{known}
 use Rattle.store.specs.declared.memo.Memo.{Memo}
 use Rattle.store.specs.declared.memo.Known.{Known}
 use Rattle.store.specs.declared.memo.Known.the-variants.{Value, Nothing}
-use Rattle.graph.specs.Cells.{markIn, rowsEnd, nodes-few}
-use Rattle.graph.specs.Links.{Holds}
-use Rattle.graph.specs.Unifies.{many-nodes}
-use Rattle.graph.specs.Pushes.{Pushes}
-use Rattle.graph.specs.declared.graph.Graph.{Graph as Counts}
-use Rattle.graph.specs.declared.graph.Pushed.{Pushed}
-use Rattle.graph.specs.declared.graph.Pushed.the-variants.{At, Short}
-use Rattle.base.specs.declared.id.Node.{Node}
+use Rattle.graph.specs.Cells.{markIn}
 use Rattle.copy.specs.declared.walk.Copying.{Copying}
-use Rattle.copy.specs.Held.{indexIn, tableIn, rowsAt, rowsIn, valueIn, orZero, copyIn, markAt, marksIn, Apart, Outside, noted, Notes, Grows, Makes, Beside, Stays, Begins, Finishes, vertexFor, numberFor}
+use Rattle.copy.specs.Held.{valueIn, orZero, copyIn, marksIn}
+use Rattle.copy.specs.Steps.{markAt, Outside, noted, Notes, numberFor}
 
 -- ---- words outside of a part
 pub outside-none : (a b : ℕ) (work : List ℕ) → Outside a b work work
@@ -150,6 +143,18 @@ module _ (work flex : List ℕ) (l : Copying) (k x : ℕ) (marks : l .variables 
 
   pub note-none : length flex ≤ k → Outside (l .variables) (l .graph) work work × Notes work work flex l (some k) x
   note-none h = (outside-none (l .variables) (l .graph) work, λ j b. let e = ne-eqb k j (λ q. absurd (omega arith)) in rw (e, noted))
+
+-- a node that is no variable is not noted; a variable is by its number
+module _ (work work′ flex : List ℕ) (l : Copying) (key : List ℕ) (x : ℕ) where
+  -- by whether its head says that it is a variable
+  abbrev NotesBy : Bool → Type 0
+  NotesBy b = Outside (l .variables) (l .graph) work work′ × Notes work work′ flex l (elim b [ true ↦ some (getD key 1 0) | false ↦ none ]) x
+
+  pub notes-variable : getD key 0 0 ≡ variableHead → Outside (l .variables) (l .graph) work work′ × Notes work work′ flex l (some (getD key 1 0)) x → Outside (l .variables) (l .graph) work work′ × Notes work work′ flex l (numberFor key) x
+  notes-variable e N = subst NotesBy (sym (eq-eqb (getD key 0 0) variableHead e)) N
+
+  pub notes-other : (getD key 0 0 ≡ variableHead → ⊥) → Outside (l .variables) (l .graph) work work′ × Notes work work′ flex l none x → Outside (l .variables) (l .graph) work work′ × Notes work work′ flex l (numberFor key) x
+  notes-other e N = subst NotesBy (sym (ne-eqb (getD key 0 0) variableHead e)) N
 
 -- how many nodes stand below a key's
 pub kids-variable : (key : List ℕ) → getD key 0 0 ≡ variableHead → 0 ≡ length (below (nodeWith key))

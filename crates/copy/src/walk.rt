@@ -9,12 +9,11 @@ use store::memo::Memo;
 use store::nodes::Store;
 ghost use mathlib.Core.Path.{_≡_};
 ghost use mathlib.Core.List.{map};
-ghost use mathlib.Core.Option.{some};
 ghost use Prim.Native.Nat.{suc, _+_, _-_, _*_, _≤_, _<_};
 ghost use lib.Dec.{eqb};
-ghost use lib.ListN.{length, getD, set, take, drop};
+ghost use lib.ListN.{length, getD, take, drop};
 ghost use Rattle.definition.specs.Test.{_and_};
-ghost use Rattle.definition.specs.Store.{below};
+ghost use Rattle.definition.specs.Store.{below, variableHead};
 ghost use Rattle.definition.specs.Graph.{variableVertex, applied};
 ghost use Rattle.definition.specs.Classes.{isSome};
 ghost use Rattle.store.specs.Words.{nodeWith};
@@ -22,7 +21,8 @@ ghost use Rattle.store.specs.Stored.{nodes};
 ghost use Rattle.store.specs.Recall.{recall, Remembers};
 ghost use Rattle.graph.specs.Cells.{markIn};
 ghost use Rattle.graph.specs.Links.{Holds};
-ghost use Rattle.copy.specs.Held.{tableIn, rowsIn, valueIn, copyIn, markAt, Apart, Arguments, Key, Outside, Notes, Grows, Makes, vertexFor, numberFor, Finishes, Ready, Advances, Runs, Begins, Given, Copies};
+ghost use Rattle.copy.specs.Held.{tableIn, rowsIn, valueIn, copyIn, Apart, Ready, Given, Copies};
+ghost use Rattle.copy.specs.Steps.{markAt, Arguments, Key, Outside, Notes, Grows, vertexFor, numberFor, Finishes, Deeper, Deepens, Advances, Runs, Begins};
 
 // Where copying has its tables in work: the store's index; what pattern nodes were copied to, a memo of two words each; the walk's
 // stack, two words for each; a word for each variable of the class, its graph node and one or 0; the graph's table.
@@ -60,17 +60,18 @@ fn copy_of(work: &[u32], l: Copying, memo: Memo, q: u32) -> u32
     }
 }
 
-// Whether a frame of pattern `p` is new and the pattern was copied before.
-fn passes(work: &[u32], l: Copying, memo: Memo, p: Pattern, taken: u32) -> bool
-    requires { ⌜ (l .copied ≤ l .walk) × (l .walk ≤ length (now work)) × (p .0 < length (recall (tableIn (now work) l) memo)) ⌝ }
-    ensures { λ r. ⌜ r ≡ (eqb taken 0 and isSome (valueIn (now (work .entry)) l memo (p .0))) ⌝ }
+// Whether the frame at `at` is new and its pattern was copied before.
+fn passes(work: &[u32], l: Copying, memo: Memo, at: usize) -> bool
+    requires { ⌜ (l .copied ≤ l .walk) × (l .walk ≤ length (now work)) × (at + 1 < length (now work)) × (getD (now work) at 0 < length (recall (tableIn (now work) l) memo)) ⌝ }
+    ensures { λ r. ⌜ r ≡ (eqb (getD (now (work .entry)) (at + 1) 0) 0 and isSome (valueIn (now (work .entry)) l memo (getD (now (work .entry)) at 0))) ⌝ }
 {
-    if taken != 0 {
+    if work[at + 1] != 0 {
         return false;
     }
+    let p = work[at];
     let from = l.copied;
     let to = l.walk;
-    match memo.get(&work[from..to], p.0 as usize) {
+    match memo.get(&work[from..to], p as usize) {
         Known::Value(_) => true,
         Known::Nothing => false,
     }
@@ -100,19 +101,22 @@ fn mark_of(flex: &[u32], k: u32) -> u32
     0
 }
 
-// Variable `k` was copied to node `x`.
-fn note(work: &mut [u32], l: Copying, flex: &[u32], k: u32, x: Node)
-    requires { ⌜ (l .variables + length (now flex) ≤ l .graph) × (l .graph ≤ length (now work)) × (x .0 < 4294967295) ⌝ }
-    ensures { λ _. ⌜ Outside (l .variables) (l .graph) (now (work .entry)) (now (work .exit)) × Notes (now (work .entry)) (now (work .exit)) (now (flex .entry)) l (some k) (x .0) ⌝ }
+// The node with a key was copied to node `x`: if it is a variable of the class, its word says so.
+fn note(work: &mut [u32], l: Copying, flex: &[u32], key: &[u32], x: Node)
+    requires { ⌜ (l .variables + length (now flex) ≤ l .graph) × (l .graph ≤ length (now work)) × (x .0 < 4294967295) × (0 < length (now key)) × (getD (now key) 0 0 ≡ variableHead → length (now key) ≡ 3) ⌝ }
+    ensures { λ _. ⌜ Outside (l .variables) (l .graph) (now (work .entry)) (now (work .exit)) × Notes (now (work .entry)) (now (work .exit)) (now (flex .entry)) l (numberFor (now (key .entry))) (x .0) ⌝ }
 {
-    let i = k as usize;
+    if key[0] != Pattern::VAR {
+        return;
+    }
+    let i = key[1] as usize;
     if i < flex.len() {
         let at = l.variables + i;
         work[at] = x.0 + 1;
     }
 }
 
-// A fresh variable in place of variable `k`.
+// A fresh variable with the mark of variable `k`.
 fn copy_variable(
     work: &mut [u32],
     cells: &mut [u32],
@@ -122,19 +126,13 @@ fn copy_variable(
     k: u32,
     sort: u32,
 ) -> Pushed
-    requires { ⌜ Apart (now work) (now cells) (now flex) l × Holds (now cells) (rowsIn (now work) (now cells) l) g ⌝ }
-    ensures { λ r. ⌜ Makes (now (work .entry)) (now (work .exit)) (now (cells .entry)) (now (cells .exit)) (now (flex .entry)) l g (variableVertex sort (markAt (now (flex .entry)) k) (markIn 0)) (some k) r ⌝ }
+    requires { ⌜ (l .graph + (5 * length (now cells) + 5) ≤ length (now work)) × Holds (now cells) (rowsIn (now work) (now cells) l) g ⌝ }
+    ensures { λ r. ⌜ Grows (now (work .entry)) (now (work .exit)) (now (cells .entry)) (now (cells .exit)) l g (variableVertex sort (markAt (now (flex .entry)) k) (markIn 0)) r ⌝ }
 {
+    let mark = mark_of(flex, k);
     let from = l.graph;
     let to = from + (5 * cells.len() + 5);
-    let mark = mark_of(flex, k);
-    match g.var(cells, &mut work[from..to], sort, mark, 0) {
-        Pushed::At(x, h) => {
-            note(work, l, flex, k, x);
-            Pushed::At(x, h)
-        }
-        Pushed::Short => Pushed::Short,
-    }
+    g.var(cells, &mut work[from..to], sort, mark, 0)
 }
 
 // An application over the copies of its arguments.
@@ -168,7 +166,7 @@ fn copy_node(
     key: &[u32],
 ) -> Pushed
     requires { ⌜ Apart (now work) (now cells) (now flex) l × Holds (now cells) (rowsIn (now work) (now cells) l) g × Key (now work) l memo (now key) ⌝ }
-    ensures { λ r. ⌜ Makes (now (work .entry)) (now (work .exit)) (now (cells .entry)) (now (cells .exit)) (now (flex .entry)) l g (vertexFor (now (work .entry)) l memo (now (flex .entry)) (now (key .entry))) (numberFor (now (key .entry))) r ⌝ }
+    ensures { λ r. ⌜ Grows (now (work .entry)) (now (work .exit)) (now (cells .entry)) (now (cells .exit)) l g (vertexFor (now (work .entry)) l memo (now (flex .entry)) (now (key .entry))) r ⌝ }
 {
     if key[0] == Pattern::VAR {
         return copy_variable(work, cells, l, g, flex, key[1], key[2]);
@@ -176,7 +174,7 @@ fn copy_node(
     copy_application(work, cells, l, memo, g, key)
 }
 
-// Pattern `p` with a key, copied, and its copy in the memo.
+// Pattern `p` with a key, the frame of which stood above `top` others, is copied, and the memo and the variables' words say so.
 fn finish(
     work: &mut [u32],
     cells: &mut [u32],
@@ -186,18 +184,20 @@ fn finish(
     flex: &[u32],
     p: Pattern,
     key: &[u32],
-) -> Pushed
+    top: usize,
+) -> Turn
     requires { ⌜ Apart (now work) (now cells) (now flex) l × Holds (now cells) (rowsIn (now work) (now cells) l) g × Key (now work) l memo (now key) × Remembers (tableIn (now work) l) memo × (p .0 < length (recall (tableIn (now work) l) memo)) ⌝ }
-    ensures { λ r. ⌜ Finishes (now (work .entry)) (now (work .exit)) (now (cells .entry)) (now (cells .exit)) (now (flex .entry)) l memo g (p .0) (now (key .entry)) r ⌝ }
+    ensures { λ r. ⌜ Finishes (now (work .entry)) (now (work .exit)) (now (cells .entry)) (now (cells .exit)) (now (flex .entry)) l memo g (p .0) (now (key .entry)) top r ⌝ }
 {
     match copy_node(work, cells, l, memo, g, flex, key) {
         Pushed::At(x, h) => {
+            note(work, l, flex, key, x);
             let from = l.copied;
             let to = l.walk;
             memo.insert(&mut work[from..to], p.0 as usize, x.0);
-            Pushed::At(x, h)
+            Turn::On(top, h)
         }
-        Pushed::Short => Pushed::Short,
+        Pushed::Short => Turn::Short,
     }
 }
 
@@ -212,14 +212,19 @@ fn kids(key: &[u32]) -> usize
     key.len() - 1
 }
 
-// The frame at `at` takes one more; pattern `q` gets a frame above it.
-fn enter(work: &mut [u32], at: usize, taken: u32, q: u32)
-    requires { ⌜ (at + 3 < length (now work)) × (taken < 16) ⌝ }
-    ensures { λ _. ⌜ now (work .exit) ≡ set (set (set (now (work .entry)) (at + 1) (taken + 1)) (at + 2) q) (at + 3) 0 ⌝ }
+// Whether an argument of the node with a key is left to the frame at `at`: then it takes one more, which gets a frame above it.
+fn deepen(work: &mut [u32], at: usize, key: &[u32]) -> bool
+    requires { ⌜ Deeper (now work) at (now key) ⌝ }
+    ensures { λ r. ⌜ Deepens (now (work .entry)) (now (work .exit)) at (now (key .entry)) r ⌝ }
 {
+    let taken = work[at + 1];
+    if kids(key) <= taken as usize {
+        return false;
+    }
     work[at + 1] = taken + 1;
-    work[at + 2] = q;
+    work[at + 2] = key[taken as usize + 1];
     work[at + 3] = 0;
+    true
 }
 
 // One turn on the frame above `top` others: it is dropped if its pattern was copied; or its next argument gets a frame; or its pattern
@@ -239,22 +244,17 @@ fn advance(
     ensures { λ r. ⌜ Advances (now (work .entry)) (now (work .exit)) (now (words .entry)) (now (cells .entry)) (now (cells .exit)) (now (flex .entry)) l st memo g top r ⌝ }
 {
     let at = l.walk + 2 * top;
-    let p = Pattern(work[at]);
-    let taken = work[at + 1];
-    if passes(work, l, memo, p, taken) {
+    if passes(work, l, memo, at) {
         return Turn::On(top, g);
     }
+    let p = Pattern(work[at]);
     let from = l.index;
     let to = l.copied;
     let key = st.node(&work[from..to], words, p);
-    if (taken as usize) < kids(key) {
-        enter(work, at, taken, key[taken as usize + 1]);
+    if deepen(work, at, key) {
         return Turn::On(top + 2, g);
     }
-    match finish(work, cells, l, memo, g, flex, p, key) {
-        Pushed::At(_, h) => Turn::On(top, h),
-        Pushed::Short => Turn::Short,
-    }
+    finish(work, cells, l, memo, g, flex, p, key, top)
 }
 
 // The turns from one frame on until none is left.

@@ -4,3 +4,4 @@ pub mod Building
 pub mod Turns
 pub mod Whole
 pub mod Going
+pub mod Variables

@@ -1,2 +1,3 @@
-// A rule's terms in the term graph.
+// A rule's variables and terms in the term graph.
 pub mod terms;
+pub mod variables;

@@ -1,29 +1,15 @@
+-- `copy` meets its contract.
 use borrow.Author.Needs.{needs}
+use mathlib.Core.Path.{_∙_}
 use Rattle.copy.specs.Whole.{first-ready, end-table, end-inside, end-known, copies-at, copies-short}
-use mathlib.Core.Path.{_≡_}
 use Rattle.copy.proofs.walk.copy.Statement.{statement}
 use Rattle.copy.proofs.walk.copy.Tie as tie
-use Rattle.copy.proofs.walk.copy.Reads as reads
-use Rattle.copy.proofs.walk.copy.Lts as lts
-use Rattle.copy.proofs.walk.begin.Reads as begin-reads
-use Rattle.copy.proofs.walk.copy_of.Reads as copy-of-reads
-use Rattle.copy.proofs.walk.run.Reads as run-reads
 
--- src/walk.rt:321:9
-begin-requires : tie.Need-begin-requires
-begin-requires c κs = search needs
-
--- src/walk.rt:322:11
 run-requires : tie.Need-run-requires
 run-requires c κs =
     let s = c .before .before .before .before .before .before .before .before .before .before in
     first-ready _ _ _ _ _ _ _ _ (s .pre .0) _ (s .pre .1) _ _ (c .before .before .before .before .begin .ensures)
 
--- src/walk.rt:323:21
-enum-known-h : tie.Need-enum-known-h
-enum-known-h c = search needs
-
--- src/walk.rt:323:43
 copy-of-requires : tie.Need-copy-of-requires
 copy-of-requires c κs =
     let s = c .before .before .before .before .before .before .before .before .before .before .before .before .before .before .before .before .before .before .before in
@@ -33,34 +19,24 @@ copy-of-requires c κs =
       end-known _ _ _ _ _ _ _ _ (s .pre .0) _ (s .pre .1) _ _ (c .before .before .before .before .before .before .before .before .before .before .before .before .before .begin .ensures) (v .last .0) (v .last .1 .1 .0) _ _ (v .result) (c .before .before .h .given .1) (v .ensures),
     )
 
--- src/walk.rt:324:24
-enum-told : tie.Need-enum-told
-enum-told c = search needs
-
--- src/walk.rt:307:1
 same-length : tie.Need-same-length
-same-length c = search needs
+same-length c = c .before .before .before .before .before .before .before .before .before .run .kept .0 ∙ c .before .before .before .before .before .before .before .before .before .before .before .before .before .before .begin .kept .0
 
--- src/walk.rt:307:1
 same-length-2 : tie.Need-same-length-2
-same-length-2 c = search needs
+same-length-2 c = c .before .before .before .before .before .before .before .before .before .run .kept .1 .1 .0
 
--- src/walk.rt:307:1
 returns : tie.Need-returns
 returns c =
     let s = c .before .before .before .before .before .before .before .before .before .before .before .before .before .before .before .before .before .before .before .before in
     let v = c .before .before .before .before .before .before .before .before .before .run in
     copies-at _ _ _ _ _ _ _ _ (s .pre .0) _ (s .pre .1) _ _ (c .before .before .before .before .before .before .before .before .before .before .before .before .before .before .begin .ensures) (v .last .0) (v .last .1 .1 .0) _ _ (v .result) (c .before .before .before .h .given .1) (v .ensures) (v .kept .1 .1 .0) _ (c .copy-of .ensures)
 
--- src/walk.rt:307:1
 same-length-3 : tie.Need-same-length-3
-same-length-3 c = search needs
+same-length-3 c = c .before .before .before .before .before .before .run .kept .0 ∙ c .before .before .before .before .before .before .before .before .before .before .before .begin .kept .0
 
--- src/walk.rt:307:1
 same-length-4 : tie.Need-same-length-4
-same-length-4 c = search needs
+same-length-4 c = c .before .before .before .before .before .before .run .kept .1 .1 .0
 
--- src/walk.rt:307:1
 returns-2 : tie.Need-returns-2
 returns-2 c =
     let s = c .before .before .before .before .before .before .before .before .before .before .before .before .before .before .before .before .before in
@@ -71,11 +47,11 @@ pub copy-spec : {M : Type 1} → statement M
 copy-spec =
     tie.close
     (tie.spec
-    begin-requires
+    (λ c κs. search needs)
     run-requires
-    enum-known-h
+    (λ c. search needs)
     copy-of-requires
-    enum-told
+    (λ c. search needs)
     same-length
     same-length-2
     returns

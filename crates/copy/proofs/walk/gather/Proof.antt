@@ -1,16 +1,14 @@
+-- `gather` meets its contract.
 use borrow.Author.Needs.{needs}
 use Rattle.copy.specs.Writes.{gather-more, gather-all, argument-below}
 use Rattle.copy.specs.Held.{copyIn}
 use Prim.Native.Nat.{_≤_, _-_}
-use lib.ListN.{length, take, drop, set, length-set}
+use lib.ListN.{length, take, drop, length-set}
 use mathlib.Core.List.{map}
 use native.Mathlib.Omega.{arith}
 use mathlib.Core.Path.{_≡_, refl, _∙_}
 use Rattle.copy.proofs.walk.gather.Statement.{statement}
 use Rattle.copy.proofs.walk.gather.Tie as tie
-use Rattle.copy.proofs.walk.gather.Reads as reads
-use Rattle.copy.proofs.walk.gather.Lts as lts
-use Rattle.copy.proofs.walk.copy_of.Reads as copy-of-reads
 
 abbrev Inv-loop : tie.InvT-loop
 Inv-loop work l memo key args₀ n i₀ args i = (length args ≡ length args₀) × (i ≤ n) × (take i args ≡ take i (map (copyIn work l memo) (drop 1 key)))
@@ -18,58 +16,24 @@ Inv-loop work l memo key args₀ n i₀ args i = (length args ≡ length args₀
 abbrev μ-loop : tie.MeasureT-loop
 μ-loop work l memo key args₀ n i₀ args i = n - i
 
--- src/walk.rt:84:13
-sub-n : tie.Need-sub-n Inv-loop μ-loop
-sub-n c = search needs
-
--- src/walk.rt:86:5
 loop-holds : tie.Need-loop-holds Inv-loop μ-loop
 loop-holds c = (refl, search needs, refl)
 
--- src/walk.rt:87:46
-add-copy-of : tie.Need-add-copy-of Inv-loop μ-loop
-add-copy-of c = search needs
-
--- src/walk.rt:87:42
-mul-copy-of : tie.Need-mul-copy-of Inv-loop μ-loop
-mul-copy-of c = search needs
-
--- src/walk.rt:87:42
-shared-slice-read-copy-of : tie.Need-shared-slice-read-copy-of Inv-loop μ-loop
-shared-slice-read-copy-of c = search needs
-
--- src/walk.rt:87:19
 copy-of-requires : tie.Need-copy-of-requires Inv-loop μ-loop
 copy-of-requires c κs = (c .before .before .before .before .before .before .pre .0, c .before .before .before .before .before .before .pre .1, argument-below _ (c .before .before .before .before .before .before .args .key .now) (c .before .before .loop .i) (c .before .before .before .before .before .before .pre .2 .known) (omega arith))
 
--- src/walk.rt:87:9
-mul-args : tie.Need-mul-args Inv-loop μ-loop
-mul-args c = search needs
-
--- src/walk.rt:87:9
 slice-write-args : tie.Need-slice-write-args Inv-loop μ-loop
 slice-write-args c = omega (arith, c .before .before .before .loop .inv .0, c .before .before .before .before .before .before .before .pre .3, c .before .before .before .before .before .before .before .pre .2 .few)
 
--- src/walk.rt:88:9
-add-i : tie.Need-add-i Inv-loop μ-loop
-add-i c = search needs
-
--- src/walk.rt:86:5
-loop-less : tie.Need-loop-less Inv-loop μ-loop
-loop-less c = search needs
-
--- src/walk.rt:86:5
 loop-again : tie.Need-loop-again Inv-loop μ-loop
 loop-again c =
     let g = c .before .before .before .loop in
     let s = c .before .before .before .before .before .before .before in
     (length-set (g .args) (g .i) (c .copy-of .result) ∙ g .inv .0, search needs, gather-more (copyIn (s .args .work .now) (s .args .l) (s .args .memo)) (s .args .key .now) (g .args) (g .i) (c .copy-of .result) (omega arith) (omega (arith, g .inv .0, s .pre .3, s .pre .2 .few)) (c .copy-of .ensures) (g .inv .2))
 
--- src/walk.rt:80:1
 same-length : tie.Need-same-length Inv-loop μ-loop
 same-length c = c .before .loop .inv .0
 
--- src/walk.rt:80:1
 returns : tie.Need-returns Inv-loop μ-loop
 returns c =
     let g = c .before .loop in
@@ -82,16 +46,16 @@ gather-spec =
     (tie.spec
     Inv-loop
     μ-loop
-    sub-n
+    (λ c. omega arith)
     loop-holds
-    add-copy-of
-    mul-copy-of
-    shared-slice-read-copy-of
+    (λ c. omega arith)
+    (λ c. omega arith)
+    (λ c. omega arith)
     copy-of-requires
-    mul-args
+    (λ c. omega arith)
     slice-write-args
-    add-i
-    loop-less
+    (λ c. omega arith)
+    (λ c. search needs)
     loop-again
     same-length
     returns)

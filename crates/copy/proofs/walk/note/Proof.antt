@@ -1,38 +1,39 @@
+-- `note` meets its contract.
 use borrow.Author.Needs.{needs}
-use Rattle.copy.specs.Writes.{note-set, note-none}
+use Rattle.copy.specs.Writes.{outside-none, note-set, note-none, notes-variable, notes-other}
+use lib.ListN.{getD}
+use mathlib.Core.Path.{refl}
+use native.Mathlib.Omega.{arith}
 use Rattle.copy.proofs.walk.note.Statement.{statement}
 use Rattle.copy.proofs.walk.note.Tie as tie
-use Rattle.copy.proofs.walk.note.Reads as reads
-use Rattle.copy.proofs.walk.note.Lts as lts
 
--- src/walk.rt:110:18
-add-at : tie.Need-add-at
-add-at c = search needs
-
--- src/walk.rt:111:20
-add-work : tie.Need-add-work
-add-work c = search needs
-
--- src/walk.rt:111:9
-mul-work : tie.Need-mul-work
-mul-work c = search needs
-
--- src/walk.rt:111:9
-slice-write-work : tie.Need-slice-write-work
-slice-write-work c = search needs
-
--- src/walk.rt:104:1
-same-length : tie.Need-same-length
-same-length c = search needs
-
--- src/walk.rt:104:1
 returns : tie.Need-returns
-returns c = let s = c .before .before .before in note-set (s .args .work .now) (s .args .flex .now) (s .args .l) (s .args .k) (s .args .x .0) (s .pre .0) (s .pre .1) (c .before .before .if1 .taken)
+returns c = let a = c .before .before .args in notes-other (a .work .now) (a .work .now) (a .flex .now) (a .l) (a .key .now) (a .x .0) (c .if1 .taken) (outside-none (a .l .variables) (a .l .graph) (a .work .now), λ j h. refl)
 
--- src/walk.rt:104:1
+shared-slice-read-i : tie.Need-shared-slice-read-i
+shared-slice-read-i c = omega (arith, c .before .before .before .pre .4 (c .before .if1 .left))
+
+cast-i : tie.Need-cast-i
+cast-i c = omega (arith, c .shared-slice-known2 .given 1)
+
 returns-2 : tie.Need-returns-2
-returns-2 c = let s = c .before in note-none (s .args .work .now) (s .args .flex .now) (s .args .l) (s .args .k) (s .args .x .0) (s .pre .0) (s .pre .1) (c .if1 .left)
+returns-2 c = let s = c .before .before .before .before .before .before in let a = s .args in notes-variable (a .work .now) _ (a .flex .now) (a .l) (a .key .now) (a .x .0) (c .before .before .before .before .if1 .left) (note-set (a .work .now) (a .flex .now) (a .l) (getD (a .key .now) 1 0) (a .x .0) (s .pre .0) (s .pre .1) (c .before .before .if2 .taken))
+
+returns-3 : tie.Need-returns-3
+returns-3 c = let s = c .before .before .before .before in let a = s .args in notes-variable (a .work .now) (a .work .now) (a .flex .now) (a .l) (a .key .now) (a .x .0) (c .before .before .if1 .left) (note-none (a .work .now) (a .flex .now) (a .l) (getD (a .key .now) 1 0) (a .x .0) (s .pre .0) (s .pre .1) (c .if2 .left))
 
 pub note-spec : {M : Type 1} → statement M
 note-spec =
-    tie.close (tie.spec add-at add-work mul-work slice-write-work same-length returns returns-2)
+    tie.close
+    (tie.spec
+    (λ c. omega arith)
+    returns
+    shared-slice-read-i
+    cast-i
+    (λ c. omega arith)
+    (λ c. omega arith)
+    (λ c. omega arith)
+    (λ c. omega arith)
+    (λ c. search needs)
+    returns-2
+    returns-3)

@@ -1,75 +1,48 @@
+-- `passes` meets its contract.
 use borrow.Author.Needs.{needs}
 use Rattle.base.specs.Part.{part}
 use Rattle.copy.specs.Writes.{passes-not, passes-some, passes-none}
-use Rattle.store.specs.Recall.{known}
-use Rattle.definition.specs.Classes.{isSome}
-use mathlib.Core.Path.{_∙_, ap}
-use mathlib.Core.Bool.{true, false}
+use Prim.Native.Nat.{_+_}
+use lib.ListN.{getD}
+use native.Mathlib.Omega.{arith}
 use Rattle.copy.proofs.walk.passes.Statement.{statement}
 use Rattle.copy.proofs.walk.passes.Tie as tie
-use Rattle.copy.proofs.walk.passes.Reads as reads
-use Rattle.copy.proofs.walk.passes.Lts as lts
-use Rattle.store.proofs.memo.Memo.get.Reads as get-reads
 
--- src/walk.rt:69:9
 returns : tie.Need-returns
 returns c = passes-not _ _ (c .if1 .taken)
 
--- src/walk.rt:73:20
-mul-get : tie.Need-mul-get
-mul-get c = search needs
-
--- src/walk.rt:73:20
-sub-get : tie.Need-sub-get
-sub-get c = search needs
-
--- src/walk.rt:73:20
-part-get-start : tie.Need-part-get-start
-part-get-start c = search needs
-
--- src/walk.rt:73:20
-part-get-end : tie.Need-part-get-end
-part-get-end c = search needs
-
--- src/walk.rt:73:37
 cast-get : tie.Need-cast-get
-cast-get c = search needs
+cast-get c = omega (arith, c .before .shared-slice-known3 .given (c .before .before .before .before .before .args .at))
 
--- src/walk.rt:73:11
 get-requires : tie.Need-get-requires
 unfolding part
-get-requires c κs = c .before .before .before .before .pre .2
+get-requires c κs = c .before .before .before .before .before .pre .3
 
--- src/walk.rt:74:28
-enum-told : tie.Need-enum-told
-enum-told c = search needs
-
--- src/walk.rt:75:27
-enum-told-2 : tie.Need-enum-told-2
-enum-told-2 c = search needs
-
--- src/walk.rt:64:1
 returns-2 : tie.Need-returns-2
 unfolding part
-returns-2 c = passes-some (c .before .before .before .before .before .before .before .args .work .now) (c .before .before .before .before .before .before .before .args .l) (c .before .before .before .before .before .before .before .args .memo) (c .before .before .before .before .before .before .before .args .p .0) (c .before .before .before .before .before .before .before .args .taken) (c .before .before .get .result) (c .before .before .before .before .before .if1 .left) (c .before .before .get .ensures) _ (c .enum-told .given .1)
+returns-2 c = let a = c .before .before .before .before .before .before .before .before .args in passes-some (a .work .now) (a .l) (a .memo) (getD (a .work .now) (a .at) 0) (getD (a .work .now) (a .at + 1) 0) (c .before .before .get .result) (c .before .before .before .before .before .if1 .left) (c .before .before .get .ensures) _ (c .enum-told .given .1)
 
--- src/walk.rt:64:1
 returns-3 : tie.Need-returns-3
 unfolding part
-returns-3 c = passes-none (c .before .before .before .before .before .before .before .args .work .now) (c .before .before .before .before .before .before .before .args .l) (c .before .before .before .before .before .before .before .args .memo) (c .before .before .before .before .before .before .before .args .p .0) (c .before .before .before .before .before .before .before .args .taken) (c .before .before .get .result) (c .before .before .before .before .before .if1 .left) (c .before .before .get .ensures) (c .enum-told2 .given .1)
+returns-3 c = let a = c .before .before .before .before .before .before .before .before .args in passes-none (a .work .now) (a .l) (a .memo) (getD (a .work .now) (a .at) 0) (getD (a .work .now) (a .at + 1) 0) (c .before .before .get .result) (c .before .before .before .before .before .if1 .left) (c .before .before .get .ensures) (c .enum-told2 .given .1)
 
 pub passes-spec : {M : Type 1} → statement M
 passes-spec =
     tie.close
     (tie.spec
+    (λ c. omega arith)
+    (λ c. omega arith)
+    (λ c. omega arith)
     returns
-    mul-get
-    sub-get
-    part-get-start
-    part-get-end
+    (λ c. omega arith)
+    (λ c. omega arith)
+    (λ c. omega arith)
+    (λ c. omega arith)
+    (λ c. omega arith)
+    (λ c. omega arith)
     cast-get
     get-requires
-    enum-told
-    enum-told-2
+    (λ c. search needs)
+    (λ c. search needs)
     returns-2
     returns-3)

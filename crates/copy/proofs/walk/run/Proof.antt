@@ -1,13 +1,11 @@
+-- `run` meets its contract.
 use borrow.Author.Needs.{needs}
 use Prim.Native.Nat.{_-_}
-use mathlib.Core.Path.{_≡_, _∙_}
+use mathlib.Core.Path.{_∙_}
 use Rattle.copy.specs.Runs.{turnsMost, Loops, loops-first, loops-at, loops-ready, loops-done, loops-on, loops-fewer, loops-short}
 use native.Mathlib.Omega.{arith}
 use Rattle.copy.proofs.walk.run.Statement.{statement}
 use Rattle.copy.proofs.walk.run.Tie as tie
-use Rattle.copy.proofs.walk.run.Reads as reads
-use Rattle.copy.proofs.walk.run.Lts as lts
-use Rattle.copy.proofs.walk.advance.Reads as advance-reads
 
 abbrev Inv-loop : tie.InvT-loop
 Inv-loop work₀ words cells₀ l st memo flex g₀ top₀ work cells g top = Loops work₀ work words cells₀ cells flex l st memo g₀ g top
@@ -15,32 +13,23 @@ Inv-loop work₀ words cells₀ l st memo flex g₀ top₀ work cells g top = Lo
 abbrev μ-loop : tie.MeasureT-loop
 μ-loop work₀ words cells₀ l st memo flex g₀ top₀ work cells g top = turnsMost work words l st memo top
 
--- src/walk.rt:276:5
 loop-holds : tie.Need-loop-holds Inv-loop μ-loop
 loop-holds c = let a = c .before .before .before .before .args in loops-first (a .work .now) (a .words .now) (a .cells .now) (a .flex .now) (a .l) (a .st) (a .memo) (a .start)
 
--- src/walk.rt:277:65
 sub-advance : tie.Need-sub-advance Inv-loop μ-loop
 sub-advance c = omega (arith, c .before .before .loop-test .taken)
 
--- src/walk.rt:277:15
 advance-requires : tie.Need-advance-requires Inv-loop μ-loop
 advance-requires c κs =
     let g = c .before .before .before .loop in
     loops-ready _ _ _ _ _ _ _ _ _ _ _ _ (loops-at _ _ _ _ _ _ _ _ _ _ _ (g .top) (c .before .before .loop-test .taken) (g .inv)) (c .before .before .before .before .before .before .before .before .pre)
 
--- src/walk.rt:278:22
-enum-known-k : tie.Need-enum-known-k Inv-loop μ-loop
-enum-known-k c = search needs
-
--- src/walk.rt:276:5
 loop-less : tie.Need-loop-less Inv-loop μ-loop
 loop-less c =
     let g = c .before .before .before .before .before .before .before .before .before .before .before .loop in
     let v = c .before .before .before .before .before .before .before .advance in
     loops-fewer _ _ _ _ _ _ _ _ _ _ _ (g .top) (c .before .before .before .before .before .before .before .before .before .before .loop-test .taken) (g .inv) (c .before .before .before .before .before .before .before .before .before .before .before .before .before .before .before .before .pre) (v .last .0) (v .last .1 .1 .0) _ _ (rw (c .before .k .given .1) at (v .ensures))
 
--- src/walk.rt:276:5
 loop-again : tie.Need-loop-again Inv-loop μ-loop
 loop-again c =
     let g = c .before .before .before .before .before .before .before .before .before .before .before .loop in
@@ -48,19 +37,12 @@ loop-again c =
     let L = loops-at _ _ _ _ _ _ _ _ _ _ _ (g .top) (c .before .before .before .before .before .before .before .before .before .before .loop-test .taken) (g .inv) in
     loops-on _ _ _ _ _ _ _ _ _ _ _ (g .top - 1) L (v .last .0) (v .last .1 .1 .0) _ _ (v .kept .1 .1 .0) (rw (c .before .k .given .1) at (v .ensures))
 
--- src/walk.rt:283:17
-enum-told : tie.Need-enum-told Inv-loop μ-loop
-enum-told c = search needs
-
--- src/walk.rt:283:17
 same-length : tie.Need-same-length Inv-loop μ-loop
 same-length c = c .before .before .before .before .before .before .advance .kept .0 ∙ c .before .before .before .before .before .before .before .before .before .before .loop .inv .beside .long
 
--- src/walk.rt:283:17
 same-length-2 : tie.Need-same-length-2 Inv-loop μ-loop
 same-length-2 c = c .before .before .before .before .before .before .advance .kept .1 .1 .0 ∙ c .before .before .before .before .before .before .before .before .before .before .loop .inv .long
 
--- src/walk.rt:283:17
 returns : tie.Need-returns Inv-loop μ-loop
 returns c =
     let g = c .before .before .before .before .before .before .before .before .before .before .loop in
@@ -68,15 +50,12 @@ returns c =
     let L = loops-at _ _ _ _ _ _ _ _ _ _ _ (g .top) (c .before .before .before .before .before .before .before .before .before .loop-test .taken) (g .inv) in
     loops-short _ _ _ _ _ _ _ _ _ _ _ (g .top - 1) L (v .last .0) (v .last .1 .1 .0) (rw (c .enum-told .given .1) at (v .ensures))
 
--- src/walk.rt:261:1
 same-length-3 : tie.Need-same-length-3 Inv-loop μ-loop
 same-length-3 c = c .before .loop .inv .beside .long
 
--- src/walk.rt:261:1
 same-length-4 : tie.Need-same-length-4 Inv-loop μ-loop
 same-length-4 c = c .before .loop .inv .long
 
--- src/walk.rt:261:1
 returns-2 : tie.Need-returns-2 Inv-loop μ-loop
 returns-2 c = let g = c .before .loop in loops-done _ _ _ _ _ _ _ _ _ _ _ (g .top) (omega (arith, c .loop-test .left)) (g .inv)
 
@@ -89,10 +68,10 @@ run-spec =
     loop-holds
     sub-advance
     advance-requires
-    enum-known-k
+    (λ c. search needs)
     loop-less
     loop-again
-    enum-told
+    (λ c. search needs)
     same-length
     same-length-2
     returns
