@@ -16,43 +16,55 @@ use Rattle.copy.specs.Writes.{outside-then, outside-wider, outside-set, 
 
 module _ (work flex : List ℕ) (l : Copying) (p : ℕ) (memo : Memo) (up : l .copied ≤ l .walk) (room : l .walk + 2 ≤ l .variables) (fits : l .variables + length flex ≤ length work)
     (table zs : List ℕ) (long : length table ≡ length (tableIn work l)) where
+  -- the memo came back
   abbrev first : List ℕ
   first = put (l .copied) (l .walk - l .copied) table work
 
+  -- beside its table nothing has changed
   O₁ : Outside (l .copied) (l .walk) work first
   O₁ = outside-put (l .copied) (l .walk) work table up (omega arith) long
 
+  -- where the variables' words end
   abbrev end : ℕ
   end = l .variables + length flex
 
+  -- they are within
   pub second-fits : end ≤ length first
   second-fits = omega (arith, O₁ .long)
 
   module _ (z : zs ≡ replicate (length (part (l .variables) (end - l .variables) first)) 0) where
+    -- the variables' words came back
     abbrev second : List ℕ
     second = put (l .variables) (end - l .variables) zs first
 
+    -- the frame was written
     abbrev third : List ℕ
     third = set (set second (l .walk) p) (l .walk + 1) 0
 
+    -- as many zeros as words
     long-zs : length zs ≡ length (part (l .variables) (end - l .variables) first)
     long-zs = ap length z ∙ length-replicate (length (part (l .variables) (end - l .variables) first)) 0
 
+    -- beside these words nothing has changed
     O₂ : Outside (l .variables) end first second
     O₂ = outside-put (l .variables) end first zs (omega arith) second-fits long-zs
 
+    -- nothing is longer or shorter
     pub third-long : length third ≡ length work
     third-long = length-set (set second (l .walk) p) (l .walk + 1) 0 ∙ length-set second (l .walk) p ∙ O₂ .long ∙ O₁ .long
 
+    -- beside the frame nothing has changed
     O₃ : Outside (l .walk) (l .walk + 2) second third
     O₃ = outside-then (l .walk) (l .walk + 2) second (set second (l .walk) p) third (outside-set (l .walk) (l .walk + 2) (l .walk) p second (omega arith) (omega arith)) (outside-set (l .walk) (l .walk + 2) (l .walk + 1) 0 (set second (l .walk) p) (omega arith) (omega arith))
 
+    -- the memo's table stands there still
     table-there : tableIn third l ≡ table
     table-there =
         part-ahead (l .walk) (l .walk + 2) (l .copied) (l .walk) second third O₃ (omega arith) (omega (arith, O₂ .long, O₁ .long)) up
         ∙ part-ahead (l .variables) end (l .copied) (l .walk) first second O₂ (omega arith) (omega (arith, O₁ .long)) up
         ∙ back (l .copied) (l .walk) work table up (omega arith) long
 
+    -- so a copy begins
     pub begun : (n : ℕ) → Remembers table memo × (recall table memo ≡ replicate n none) → Begins work third flex l p memo
     begun n R = record {
       outside = outside-then (l .copied) end work first third
@@ -65,11 +77,13 @@ module _ (work flex : List ℕ) (l : Copying) (p : ℕ) (memo : Memo) (up : l .c
       variables = λ k h. O₃ .behind (l .variables + k) (omega arith) ∙ back-at (l .variables) end first zs (omega arith) second-fits long-zs k (omega arith) ∙ ap (λ (t : List ℕ). getD t k 0) z ∙ zero-at (length (part (l .variables) (end - l .variables) first)) k;
     }
       where
+        -- nothing is at any place
         none-at : (n q : ℕ) → _≡_ {A = Option ℕ} (getD (replicate n none) q none) none
         none-at zero q = refl
         none-at (suc n) zero = refl
         none-at (suc n) (suc q) = none-at n q
 
+        -- zero is at any place
         zero-at : (n q : ℕ) → _≡_ {A = ℕ} (getD (replicate n 0) q 0) 0
         zero-at zero q = refl
         zero-at (suc n) zero = refl

@@ -52,9 +52,11 @@ memo-room work words cells flex l st memo A R S =
 
 -- ---- a node's key can be copied
 module _ (work words cells flex : List ℕ) (l : Copying) (st : Store) (memo : Memo) (P : Patterns (nodes words st)) (A : Apart work cells flex l) (R : Room words l) (S : Stored (indexIn work l) words st) (p : ℕ) (given : p < length (nodes words st)) where
+  -- the node
   abbrev n : Node
   n = getD (nodes words st) p noNode
 
+  -- its key is as copying asks
   pub key-copied : Key work l memo (keyOf n)
   unfolding isVariable
   key-copied = record {
@@ -119,10 +121,12 @@ module _ (work words cells₀ flex : List ℕ) (l : Copying) (st : Store) (memo 
   unfolding copyIn copied
   copy-is q = ap orZero (H .values q) ∙ same (valueOf q (c .nodes))
     where
+      -- no copy is 0
       same : (o : Option ℕ) → orZero o ≡ elim o [ none ↦ 0 | some x ↦ x ]
       same none = refl
       same (some x) = refl
 
+  -- and nodes' copies
   copies-are : (xs : List ℕ) → map (copyIn work l memo) xs ≡ map (copied (c .nodes)) xs
   copies-are [] = refl
   copies-are (x ∷ xs) = ap₂ _∷_ (copy-is x) (copies-are xs)
@@ -139,12 +143,15 @@ module _ (work words cells₀ flex : List ℕ) (l : Copying) (st : Store) (memo 
   copied-is q = ap isSome (sym (H .values q))
 
   module _ (p : ℕ) where
+    -- the node
     abbrev m : Node
     m = getD (nodes words st) p noNode
 
+    -- its copy
     abbrev w : Vertex
     w = vertexFor work l memo flex (keyOf m)
 
+    -- the variable that it is
     abbrev o : Option ℕ
     o = numberFor (keyOf m)
 
@@ -156,9 +163,11 @@ module _ (work words cells₀ flex : List ℕ) (l : Copying) (st : Store) (memo 
       | is false e ↦ rw (e, copyNode, vertexFor, numberFor) (ap (λ (xs : List ℕ). grownCopy c p (applied (m .head) xs) none) (sym (copies-are (m .args))))
     ]
 
+    -- its copy is joined to none
     bare : w .link ≡ none
     bare = elim (see (eqb (m .head) variableHead)) [ is true e ↦ rw (e, vertexFor) | is false e ↦ rw (e, vertexFor) ]
 
+    -- over nodes
     args-inside : Known isCopied c (kidsIn (nodes words st) p) → Below (length (c .graph)) (w .args)
     unfolding below isVariable
     args-inside k = elim (see (eqb (m .head) variableHead)) [
@@ -172,15 +181,19 @@ module _ (work words cells₀ flex : List ℕ) (l : Copying) (st : Store) (memo 
 
     -- it is held
     module _ (work′ cells′ : List ℕ) (x : Id) (g′ : Counts) (F : Finished work work′ cells₀ cells′ flex l memo g p (keyOf m) x g′) (long : length cells′ ≡ length cells₀) (given : p < length (nodes words st)) (k : Known isCopied c (kidsIn (nodes words st) p)) where
+      -- what was written is apart
       abbrev B : Beside work work′ cells₀ l
       B = F .1 .beside
 
+      -- its number is the next
       number : x .0 ≡ length (c .graph)
       number = F .0 .0 (c .graph) (H .shows) .0
 
+      -- the memo has a place for it
       room : p < length (recall (tableIn work l) memo)
       room = omega (arith, given, memo-room work words cells₀ flex l st memo (H .apart) (H .room) (H .stored))
 
+      -- what the memo has then
       value-is : (q : ℕ) → valueIn work′ l memo q ≡ valueOf q (pairing p (length (c .graph)) ∷ c .nodes)
       value-is q = ap (λ (os : List (Option ℕ)). getD os q none) (F .4) ∙ elim (see (eqb p q)) [
         | is true e ↦
@@ -192,6 +205,7 @@ module _ (work words cells₀ flex : List ℕ) (l : Copying) (st : Store) (memo 
             getD-set-other (recall (tableIn work l) memo) p q (some (x .0)) none d ∙ H .values q ∙ sym (valueOf-old p (length (c .graph)) (c .nodes) q d)
       ]
 
+      -- all of it together
       pub holding-more : Holding work′ words cells′ flex l st memo g′ (copyAt (nodes words st) (marksIn flex) p c)
       holding-more =
           let A = H .apart in

@@ -36,10 +36,11 @@ indexIn work l = part (l .index) (l .copied - l .index) work
 abbrev pub tableIn : List ℕ → Copying → List ℕ
 tableIn work l = part (l .copied) (l .walk - l .copied) work
 
--- where the graph's rows end, and the rows
+-- where the graph's rows end
 abbrev pub rowsAt : List ℕ → Copying → ℕ
 rowsAt words l = l .graph + rowsEnd words
 
+-- these rows
 abbrev pub rowsIn : List ℕ → List ℕ → Copying → List ℕ
 rowsIn work words l = part (l .graph) (rowsAt words l - l .graph) work
 
@@ -71,14 +72,16 @@ abbrev pub marksIn : List ℕ → List Bool
 marksIn flex = map markIn flex
 
 -- ---- what is held
--- what the memo has for a pattern node, and its copy
+-- what the memo has for a pattern node
 abbrev pub valueIn : List ℕ → Copying → Memo → ℕ → Option ℕ
 valueIn work l memo q = getD (recall (tableIn work l) memo) q none
 
+-- a copy, or 0
 abbrev pub orZero : Option ℕ → ℕ
 orZero none = 0
 orZero (some x) = x
 
+-- what a pattern node was copied to, or 0
 unfoldable pub copyIn : List ℕ → Copying → Memo → ℕ → ℕ
 copyIn work l memo q = orZero (valueIn work l memo q)
 
@@ -112,6 +115,7 @@ pub record Going (work words cells flex : List ℕ) (l : Copying) (st : Store) (
       Sound (kidsIn (nodes words st)) isCopied (copyAt (nodes words st) (marksIn flex)) (copy-made (nodes words st) (marksIn flex)) (copy-others (nodes words st) (marksIn flex)) (λ n. n)
       (kids-fall (nodes words st) (P .earlier)) (length (nodes words st)) (kids-inside (nodes words st) (P .earlier)) c (framesIn work (l .walk) top)
 
+-- some such walk is under way
 abbrev pub Ready : List ℕ → List ℕ → List ℕ → List ℕ → Copying → Store → Memo → Counts → ℕ → Type 0
 Ready work words cells flex l st memo g top = (P : Patterns (nodes words st)) × (c : Copy) × Going work words cells flex l st memo P g top c
 
@@ -140,7 +144,7 @@ pub record Beside (work work′ cells : List ℕ) (l : Copying) : Type 0 where
   pub beyond : (i : ℕ) → rowsAt cells l ≤ i → getD work′ i 0 ≡ getD work i 0
 
 -- what is held then of the definition's copy
-pub record Made (work cells flex : List ℕ) (l : Copying) (memo : Memo) (g : Counts) (x p : ℕ) (r : Copy) : Type 0 where
+pub record Made (work cells flex : List ℕ) (l : Copying) (g : Counts) (x p : ℕ) (r : Copy) : Type 0 where
   pub node : x ≡ copied (r .nodes) p
   pub shows : Shows cells (graphIn work l) g (r .graph)
   pub inner : Inner (r .graph)
@@ -149,7 +153,7 @@ pub record Made (work cells flex : List ℕ) (l : Copying) (memo : Memo) (g : Co
 -- a fresh copy of the pattern in whatever inner graph is held; or short, when it has more cells than there are
 abbrev pub Copies : List ℕ → List ℕ → List ℕ → List ℕ → List ℕ → List ℕ → Copying → Store → Counts → ℕ → Copied → Type 0
 Copies work work′ words cellsₒ cells′ flex l st g p (answers.At x g′ memo′) =
-    ((h : Graph) → Shows cellsₒ (graphIn work l) g h → Inner h → Made work′ cells′ flex l memo′ g′ (x .0) p (copy (nodes words st) (marksIn flex) h p))
+    ((h : Graph) → Shows cellsₒ (graphIn work l) g h → Inner h → Made work′ cells′ flex l g′ (x .0) p (copy (nodes words st) (marksIn flex) h p))
     × Remembers (tableIn work′ l) memo′ × Beside work work′ cellsₒ l
 Copies work work′ words cellsₒ cells′ flex l st g p answers.Short =
     ((h : Graph) → Shows cellsₒ (graphIn work l) g h → Inner h → length cellsₒ < cells (copy (nodes words st) (marksIn flex) h p .graph)) × Beside work work′ cellsₒ l

@@ -23,9 +23,11 @@ took kids (f ∷ fs) = length (kids (f .node)) - (length (kids (f .node)) - f .t
 less-passed : (u t a f : ℕ) → a ≡ 0 → 2 * (u - t) + f < 2 * (u - (a + t)) + suc f
 less-passed u t a f e = let q : a + t ≡ t = omega arith in let r : u - (a + t) ≡ u - t = ap (λ (i : ℕ). u - i) q in omega (arith, r)
 
+-- as one takes a kid
 less-entered : (u t a b z f : ℕ) → b ≡ suc a → z ≡ 0 → z + (b + t) ≤ u → 2 * (u - (z + (b + t))) + suc (suc f) < 2 * (u - (a + t)) + suc f
 less-entered u t a b z f e d h = omega arith
 
+-- as one is finished
 less-finished : (u v k t a f : ℕ) → a ≡ k → k + v ≡ u → 2 * (v - t) + f < 2 * (u - (a + t)) + suc f
 less-finished u v k t a f e d = let q : u - (a + t) ≡ v - t = omega arith in omega (arith, q)
 
@@ -46,6 +48,7 @@ module _ {S : Type 0} (kids : ℕ → List ℕ) (known : S → ℕ → Bool) whe
   unfolding unfinished
   unfinished-self x s k = rw (k, unfinished)
 
+  -- among one node more no less is unfinished
   unfinished-next : (x : ℕ) (s : S) → unfinished kids known x s ≤ unfinished kids known (suc x) s
   unfolding unfinished
   unfinished-next x s = elim (see (known s x)) [ is true k ↦ rw (k, unfinished) (omega arith) | is false k ↦ rw (k, unfinished) (omega arith) ]
@@ -82,10 +85,12 @@ module _ {S : Type 0} (kids : ℕ → List ℕ) (known : S → ℕ → Bool) whe
           | is false e ↦ let u = unfinished-self x s (o .0 (omega tests)) in omega (arith, ih, up, u)
         ]
 
+    -- frames that wait are such frames
     waiting-opened : (s : S) (y : ℕ) (fs : List Frame) → Waiting kids known finish made others (λ m. m) falls n inside s y fs → Opened s fs
     waiting-opened s y [] w = tt
     waiting-opened s y (f ∷ fs) w = (λ _. w .0 .unknown, waiting-opened s (f .node) fs (w .1))
 
+    -- so are those of a sound stack
     opened : (s : S) (fs : List Frame) → Sound kids known finish made others (λ m. m) falls n inside s fs → Opened s fs
     opened s [] so = tt
     opened s (f ∷ fs) so = (so .0 .unknown, waiting-opened s (f .node) fs (so .1))
@@ -124,6 +129,7 @@ module _ {S : Type 0} (kids : ℕ → List ℕ) (known : S → ℕ → Bool) whe
 
 -- ---- what finishing lets grow, a walk does
 module _ {S : Type 0} (kids : ℕ → List ℕ) (known : S → ℕ → Bool) (finish : ℕ → S → S) (size : S → ℕ) (more : (x : ℕ) (s : S) → size s ≤ size (finish x s)) where
+  -- whatever nodes it walks
   walk-grows : (d : ℕ) (xs : List ℕ) (s : S) → size s ≤ size (walk kids known finish d xs s)
   unfolding walk
   walk-grows zero [] s = omega arith
@@ -137,6 +143,7 @@ module _ {S : Type 0} (kids : ℕ → List ℕ) (known : S → ℕ → Bool) (fi
       ] in
       omega (arith, first, walk-grows (suc d) xs t)
 
+  -- and so does what is left of a frame
   frame-grows : (d x i : ℕ) (s : S) → size s ≤ size (frameLeft kids known finish d x i s)
   unfolding frameLeft
   frame-grows d x zero s = walk-grows d (x ∷ []) s

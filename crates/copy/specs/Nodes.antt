@@ -36,6 +36,7 @@ number-small cells cells′ table table′ g g′ v x H P =
 
 -- the rows that came back
 module _ (work cells table′ : List ℕ) (l : Copying) (fits : rowsAt cells l ≤ length work) (long : length table′ ≡ length (rowsIn work cells l)) where
+  -- hold what was pushed
   pub grows : (cells′ : List ℕ) (g : Counts) (v : Vertex) (r : Pushed) → Pushes cells cells′ (rowsIn work cells l) table′ g v r → Grows work (put (l .graph) (rowsAt cells l - l .graph) table′ work) cells cells′ l g v r
   grows cells′ g v r P = (
     subst (λ (t : List ℕ). Pushes cells cells′ (rowsIn work cells l) t g v r) (sym (back (l .graph) (rowsAt cells l) work table′ (omega arith) fits long)) P,
@@ -62,18 +63,22 @@ module _ (work work′ cells cells′ flex : List ℕ) (l : Copying) (memo : Mem
   abbrev GrowsBy : Bool → Type 0
   GrowsBy b = Grows work work′ cells cells′ l g (elim b [ true ↦ variableVertex (getD key 2 0) (markAt flex (getD key 1 0)) false | false ↦ applied (getD key 0 0) (map (copyIn work l memo) (drop 1 key)) ]) r
 
+  -- a variable's
   pub node-variable : getD key 0 0 ≡ variableHead → Grows work work′ cells cells′ l g (variableVertex (getD key 2 0) (markAt flex (getD key 1 0)) (markIn 0)) r → Grows work work′ cells cells′ l g (vertexFor work l memo flex key) r
   node-variable e G = subst GrowsBy (sym (eq-eqb (getD key 0 0) variableHead e)) G
 
+  -- an application's
   pub node-applied : (getD key 0 0 ≡ variableHead → ⊥) → Grows work work′ cells cells′ l g (applied (getD key 0 0) (map (copyIn work l memo) (drop 1 key))) r → Grows work work′ cells cells′ l g (vertexFor work l memo flex key) r
   node-applied e G = subst GrowsBy (sym (ne-eqb (getD key 0 0) variableHead e)) G
 
 -- ---- the copy is noted, and put into the memo
 module _ (work cells cells′ flex : List ℕ) (l : Copying) (memo : Memo) (g : Counts) (p : ℕ) (key : List ℕ) (A : Apart work cells flex l) (H : Holds cells (rowsIn work cells l) g) (mid : List ℕ)
     (r : Pushed) (G₀ : Grows work mid cells cells′ l g (vertexFor work l memo flex key) r) where
+  -- the copy
   abbrev v : Vertex
   v = vertexFor work l memo flex key
 
+  -- with what was answered
   answered : (q : Pushed) → r ≡ q → Grows work mid cells cells′ l g v q
   answered q e = subst (λ (o : Pushed). Grows work mid cells cells′ l g v o) e G₀
 
@@ -94,10 +99,12 @@ module _ (work cells cells′ flex : List ℕ) (l : Copying) (memo : Memo) (g : 
     pub note-small : x .0 < 4294967295
     note-small = number-small cells cells′ (rowsIn work cells l) (rowsIn mid cells l) g g′ v x H (answered (At x g′) e .0)
 
+    -- and the variables' words are within
     pub note-fits : l .graph ≤ length mid
     note-fits = omega (arith, G₀ .1 .long, A .rows)
 
     module _ (noted₁ : List ℕ) (N : Outside (l .variables) (l .graph) mid noted₁ × Notes mid noted₁ flex l (numberFor key) (x .0)) where
+      -- the graph with it, and its word
       made-noted : Makes work noted₁ cells cells′ flex l g v (numberFor key) x g′
       made-noted =
           let G = answered (At x g′) e in
@@ -113,9 +120,11 @@ module _ (work cells cells′ flex : List ℕ) (l : Copying) (memo : Memo) (g : 
       pub table-kept : tableIn noted₁ l ≡ tableIn work l
       table-kept = part-ahead (l .variables) (rowsAt cells l) (l .copied) (l .walk) work noted₁ (made-noted .1) (A .stack) (omega (arith, A .stack, A .marks, A .rows)) (A .table)
 
+      -- and within
       pub table-inside : l .walk ≤ length noted₁
       table-inside = omega (arith, made-noted .1 .long, A .stack, A .marks, A .rows)
 
+      -- and then the memo has it
       pub finish-made : (table′ : List ℕ) → length table′ ≡ length (tableIn noted₁ l) → Remembers table′ memo × (recall table′ memo ≡ set (recall (tableIn noted₁ l) memo) p (some (x .0)))
           → Finished work (put (l .copied) (l .walk - l .copied) table′ noted₁) cells cells′ flex l memo g p key x g′
       finish-made table′ long R =

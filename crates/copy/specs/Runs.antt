@@ -41,6 +41,7 @@ unfolding unfinished took isSome recall framesIn nodes
 turnsMost work words l st memo top = 2 * (unfinished (kidsIn (nodes words st)) knownIn (length (nodes words st)) (recall (tableIn work l) memo) - took (kidsIn (nodes words st)) (framesIn work (l .walk) top)) + top
 
 module _ (words flex : List ℕ) (l : Copying) (st : Store) (memo : Memo) (P : Patterns (nodes words st)) where
+  -- the store's nodes
   abbrev s : List Node
   s = nodes words st
 
@@ -52,6 +53,7 @@ module _ (words flex : List ℕ) (l : Copying) (st : Store) (memo : Memo) (P : P
       let u = unfinished-same (kidsIn s) isCopied knownIn c (recall (tableIn work l) memo) (copied-is work words cells₀ flex l st memo g c H) (length s) in
       ap₂ (λ (a b : ℕ). 2 * (a - took (kidsIn s) (framesIn work (l .walk) top)) + b) u (length-frames work (l .walk) top)
 
+  -- a turn leaves fewer
   pub run-less : (work work′ cells₀ cells′ : List ℕ) (g g′ : Counts) (top k : ℕ) (c : Copy) → Going work words cells₀ flex l st memo P g (suc top) c → Advances work work′ words cells₀ cells′ flex l st memo g top (turns.On k g′)
       → turnsMost work′ words l st memo k < turnsMost work words l st memo (suc top)
   unfolding framesIn
@@ -86,6 +88,7 @@ pub record Loops (work₀ work words cells₀ cells flex : List ℕ) (l : Copyin
   pub beside : Beside work₀ work cells₀ l
   pub runs : (P : Patterns (nodes words st)) (c : Copy) → Going work₀ words cells₀ flex l st memo P g₀ 1 c → Running work₀ work words cells flex l st memo P g top c
 
+-- before the first turn
 pub loops-first : (work words cells₀ flex : List ℕ) (l : Copying) (st : Store) (memo : Memo) (g : Counts) → Loops work work words cells₀ cells₀ flex l st memo g g 1
 loops-first work words cells₀ flex l st memo g = record { long = refl; beside = beside-none work cells₀ l; runs = λ P c G. record { state = c; going = G; rest = refl } }
 
@@ -94,6 +97,7 @@ module _ (work₀ work words cells₀ cells₁ flex : List ℕ) (l : Copying) (s
   pub loops-at : (top : ℕ) → 0 < top → Loops work₀ work words cells₀ cells₁ flex l st memo g₀ g top → Loops work₀ work words cells₀ cells₁ flex l st memo g₀ g (suc (top - 1))
   loops-at top h L = let e : top ≡ suc (top - 1) = omega arith in subst (λ (k : ℕ). Loops work₀ work words cells₀ cells₁ flex l st memo g₀ g k) e L
 
+  -- a turn can be made
   pub loops-ready : (top : ℕ) → Loops work₀ work words cells₀ cells₁ flex l st memo g₀ g top → Ready work₀ words cells₀ flex l st memo g₀ 1 → Ready work words cells₁ flex l st memo g top
   loops-ready top L R = let r = L .runs (R .0) (R .1) (R .2) in (R .0, r .state, r .going)
 
@@ -115,6 +119,7 @@ module _ (work₀ work words cells₀ cells₁ flex : List ℕ) (l : Copying) (s
     unfolding framesIn
     kept P c G = turn-kept (kidsIn (nodes words st)) isCopied (copyAt (nodes words st) (marksIn flex)) (λ m. m) (kids-fall (nodes words st) (P .earlier)) (length (nodes words st)) (frame (getD work (l .walk + 2 * top) 0) (getD work (l .walk + 2 * top + 1) 0)) (framesIn work (l .walk) top) c (G .stacked) .result
 
+    -- a turn more
     pub loops-on : (g′ : Counts) (k : ℕ) → length cells′ ≡ length cells₁ → Advances work work′ words cells₁ cells′ flex l st memo g top (turns.On k g′) → Loops work₀ work′ words cells₀ cells′ flex l st memo g₀ g′ k
     loops-on g′ k e A = record {
       long = e ∙ L .long;
@@ -130,9 +135,11 @@ module _ (work₀ work words cells₀ cells₁ flex : List ℕ) (l : Copying) (s
           };
     }
 
+    -- it leaves fewer
     loops-less : (g′ : Counts) (k : ℕ) → Advances work work′ words cells₁ cells′ flex l st memo g top (turns.On k g′) → Ready work₀ words cells₀ flex l st memo g₀ 1 → turnsMost work′ words l st memo k < turnsMost work words l st memo (suc top)
     loops-less g′ k A R = let r = L .runs (R .0) (R .1) (R .2) in run-less words flex l st memo (R .0) work work′ cells₁ cells′ g g′ top k (r .state) (r .going) A
 
+    -- a turn without room: what is left to copy has no fewer cells
     pub loops-short : Advances work work′ words cells₁ cells′ flex l st memo g top turns.Short → Runs work₀ work′ words cells₀ cells′ flex l st memo g₀ 1 turns.Short
     loops-short A = (
       λ P c G.

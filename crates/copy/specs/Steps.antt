@@ -43,6 +43,7 @@ abbrev pub noted : Option ℕ → ℕ → ℕ → ℕ → ℕ
 noted none x j w = w
 noted (some k) x j w = elim (eqb k j) [ true ↦ suc x | false ↦ w ]
 
+-- the variables' words then
 abbrev pub Notes : List ℕ → List ℕ → List ℕ → Copying → Option ℕ → ℕ → Type 0
 Notes work work′ flex l o x = (j : ℕ) → j < length flex → getD work′ (l .variables + j) 0 ≡ noted o x j (getD work (l .variables + j) 0)
 
@@ -54,10 +55,11 @@ Grows work work′ cells cells′ l g v r = Pushes cells cells′ (rowsIn work c
 abbrev pub Makes : List ℕ → List ℕ → List ℕ → List ℕ → List ℕ → Copying → Counts → Vertex → Option ℕ → Id → Counts → Type 0
 Makes work work′ cells cells′ flex l g v o x g′ = Pushes cells cells′ (rowsIn work cells l) (rowsIn work′ cells l) g v (pushed.At x g′) × Outside (l .variables) (rowsAt cells l) work work′ × Notes work work′ flex l o (x .0)
 
--- what a node with a key is copied to, and the variable that it is
+-- what a node with a key is copied to
 abbrev pub vertexFor : List ℕ → Copying → Memo → List ℕ → List ℕ → Vertex
 vertexFor work l memo flex key = elim (eqb (getD key 0 0) variableHead) [ true ↦ variableVertex (getD key 2 0) (markAt flex (getD key 1 0)) false | false ↦ applied (getD key 0 0) (map (copyIn work l memo) (drop 1 key)) ]
 
+-- the variable that a node with a key is, if it is one
 abbrev pub numberFor : List ℕ → Option ℕ
 numberFor key = elim (eqb (getD key 0 0) variableHead) [ true ↦ some (getD key 1 0) | false ↦ none ]
 
@@ -89,6 +91,7 @@ Finished work work′ cells cells′ flex l memo g p key x g′ =
 abbrev pub Unfinished : List ℕ → List ℕ → List ℕ → List ℕ → List ℕ → Copying → Memo → Counts → List ℕ → Type 0
 Unfinished work work′ cells cells′ flex l memo g key = Pushes cells cells′ (rowsIn work cells l) (rowsIn work′ cells l) g (vertexFor work l memo flex key) pushed.Short × Stays work work′ cells l
 
+-- what `finish` answers
 abbrev pub Finishes : List ℕ → List ℕ → List ℕ → List ℕ → List ℕ → Copying → Memo → Counts → ℕ → List ℕ → ℕ → Turn → Type 0
 Finishes work work′ cells cells′ flex l memo g p key top (turns.On k g′) = (k ≡ top) × (x : Id) × Finished work work′ cells cells′ flex l memo g p key x g′
 Finishes work work′ cells cells′ flex l memo g p key top turns.Short = Unfinished work work′ cells cells′ flex l memo g key
@@ -110,6 +113,7 @@ Deepens work work′ at key false = (length (below (nodeWith key)) ≤ getD work
 abbrev pub turnOf : List ℕ → List ℕ → List ℕ → Copying → Store → ℕ → Copy → Walking Copy
 turnOf work words flex l st top c = turn (kidsIn (nodes words st)) isCopied (copyAt (nodes words st) (marksIn flex)) (framesIn work (l .walk) top) c
 
+-- what `advance` answers: the machine after one turn, or that its graph has more cells than there are
 abbrev pub Advances : List ℕ → List ℕ → List ℕ → List ℕ → List ℕ → List ℕ → Copying → Store → Memo → Counts → ℕ → Turn → Type 0
 Advances work work′ words cells cells′ flex l st memo g top (turns.On k g′) =
     ((P : Patterns (nodes words st)) (c : Copy) → Going work words cells flex l st memo P g (suc top) c
@@ -122,6 +126,7 @@ Advances work work′ words cellsₒ cells′ flex l st memo g top turns.Short =
 abbrev pub leftOf : List ℕ → List ℕ → List ℕ → Copying → Store → ℕ → Copy → Copy
 leftOf work words flex l st top c = left (kidsIn (nodes words st)) isCopied (copyAt (nodes words st) (marksIn flex)) (length (nodes words st)) (framesIn work (l .walk) top) c
 
+-- what `run` answers: what the frames gave, or that its graph has more cells than there are
 abbrev pub Runs : List ℕ → List ℕ → List ℕ → List ℕ → List ℕ → List ℕ → Copying → Store → Memo → Counts → ℕ → Turn → Type 0
 Runs work work′ words cells cells′ flex l st memo g top (turns.On k g′) =
     ((P : Patterns (nodes words st)) (c : Copy) → Going work words cells flex l st memo P g top c → Holding work′ words cells′ flex l st memo g′ (leftOf work words flex l st top c)) × Beside work work′ cells l

@@ -46,9 +46,11 @@ frames-same work work′ a (suc k) h =
 
 -- a frame that takes one more, and a new one above it
 module _ (work : List ℕ) (a top q taken : ℕ) where
+  -- the words then
   abbrev pub entering : List ℕ
   entering = set (set (set work (a + 2 * top + 1) (taken + 1)) (a + 2 * top + 2) q) (a + 2 * top + 3) 0
 
+  -- what they leave
   pub entering-outside : (b : ℕ) → a + 2 * top + 3 < b → Outside a b work entering
   entering-outside b h =
       let one = set work (a + 2 * top + 1) (taken + 1) in
@@ -57,6 +59,7 @@ module _ (work : List ℕ) (a top q taken : ℕ) where
       (outside-then a b work one two (outside-set a b (a + 2 * top + 1) (taken + 1) work (omega arith) (omega arith)) (outside-set a b (a + 2 * top + 2) q one (omega arith) (omega arith)))
       (outside-set a b (a + 2 * top + 3) 0 two (omega arith) (omega arith))
 
+  -- the frames then
   pub entering-frames : a + 2 * top + 3 < length work → framesIn entering a (suc (suc top)) ≡ frame q 0 ∷ frame (getD work (a + 2 * top) 0) (suc taken) ∷ framesIn work a top
   unfolding framesIn
   entering-frames h =
@@ -84,22 +87,28 @@ known-all c (x ∷ xs) h = (h 0 (omega arith), known-all c xs (λ j b. h (suc j)
 
 -- ---- a turn on the frame above `top` others
 module _ (work words cells₀ flex : List ℕ) (l : Copying) (st : Store) (memo : Memo) (g : Counts) (top : ℕ) where
+  -- the store's nodes
   abbrev pub s : List Node
   s = nodes words st
 
+  -- where the frame stands
   abbrev pub at : ℕ
   at = l .walk + 2 * top
 
+  -- its pattern
   abbrev pub p : ℕ
   p = getD work at 0
 
+  -- how many arguments it has taken
   abbrev pub taken : ℕ
   taken = getD work (at + 1) 0
 
+  -- its node
   abbrev pub n : Node
   n = getD s p noNode
 
   module _ (P : Patterns s) (c : Copy) (G : Going work words cells₀ flex l st memo P g (suc top) c) where
+    -- what is held
     abbrev H : Holding work words cells₀ flex l st memo g c
     H = G .holds
 
@@ -109,6 +118,7 @@ module _ (work words cells₀ flex : List ℕ) (l : Copying) (st : Store) (memo 
         let h = height (kidsIn s) isCopied (copyAt s (marksIn flex)) (λ m. m) (kids-fall s (P .earlier)) 0 (length s) (framesIn work (l .walk) (suc top)) (G .stacked) in
         omega (arith, length-frames work (l .walk) (suc top), nodes-most _ words st (H .stored))
 
+    -- its words are within
     pub turn-inside : at + 1 < length work
     turn-inside = omega (arith, turn-room, H .room .stack, H .apart .marks, H .apart .rows)
 
@@ -117,9 +127,11 @@ module _ (work words cells₀ flex : List ℕ) (l : Copying) (st : Store) (memo 
     unfolding framesIn
     turn-given = G .sound .0 .given
 
+    -- the memo has a place for it
     pub turn-known : p < length (recall (tableIn work l) memo)
     turn-known = omega (arith, turn-given, memo-room work words cells₀ flex l st memo (H .apart) (H .room) (H .stored))
 
+    -- its key is as copying asks
     pub turn-key : Key work l memo (keyOf n)
     turn-key = key-copied work words cells₀ flex l st memo P (H .apart) (H .room) (H .stored) p turn-given
 
@@ -150,16 +162,19 @@ module _ (work words cells₀ flex : List ℕ) (l : Copying) (st : Store) (memo 
     pub seen : (b : Bool) → b ≡ (eqb taken 0 and isSome (valueIn work l memo p)) → eqb taken 0 and isCopied c p ≡ b
     seen b e = ap (λ (x : Bool). eqb taken 0 and x) (copied-is work words cells₀ flex l st memo g c H p) ∙ sym e
 
+    -- then the machine drops it
     pub dropped : (b : Bool) → b ≡ (eqb taken 0 and isSome (valueIn work l memo p)) → b ≡ true → turnOf work words flex l st (suc top) c ≡ walking (framesIn work (l .walk) top) c
     unfolding framesIn turn
     dropped b e t = let f : eqb taken 0 and isCopied c p ≡ true = seen b e ∙ t in rw (f, turn)
 
     -- it stays
     module _ (b : Bool) (e : b ≡ (eqb taken 0 and isSome (valueIn work l memo p))) (f : b ≡ false) where
+      -- the machine enters its next argument
       pub entered : taken < length (kidsIn s p) → turnOf work words flex l st (suc top) c ≡ walking (frame (getD (kidsIn s p) taken 0) 0 ∷ frame p (suc taken) ∷ framesIn work (l .walk) top) c
       unfolding framesIn turn
       entered h = let x : eqb taken 0 and isCopied c p ≡ false = seen b e ∙ f in let y = lt-ltb taken (length (kidsIn s p)) h in rw (x, y, turn)
 
+      -- or copies its node
       pub finished : length (kidsIn s p) ≤ taken → turnOf work words flex l st (suc top) c ≡ walking (framesIn work (l .walk) top) (copyAt s (marksIn flex) p c)
       unfolding framesIn turn
       finished h = let x : eqb taken 0 and isCopied c p ≡ false = seen b e ∙ f in let y = le-ltb taken (length (kidsIn s p)) h in rw (x, y, turn)
@@ -174,5 +189,6 @@ module _ (work words cells₀ flex : List ℕ) (l : Copying) (st : Store) (memo 
           let many : length (W .stack) ≡ suc (suc (length (framesIn work (l .walk) top))) = ap (λ (v : Walking Copy). length (v .stack)) (entered h) in
           omega (arith, many, length-frames work (l .walk) top, nodes-most _ words st (H .stored))
 
+      -- whose arguments are copied
       pub all-known : length (kidsIn s p) ≤ taken → Known isCopied c (kidsIn s p)
       all-known h = known-all c (kidsIn s p) (λ j k. ready j (omega arith))

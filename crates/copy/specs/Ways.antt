@@ -38,22 +38,28 @@ use Rattle.graph.specs.declared.graph.Graph.{Graph as Counts}
 pub beside-none : (work cells : List ℕ) (l : Copying) → Beside work work cells l
 beside-none work cells l = record { long = refl; ahead = λ i h. refl; beyond = λ i h. refl }
 
+-- one thing written after another
 pub beside-then : (work mid work′ cells cells′ : List ℕ) (l : Copying) → length cells′ ≡ length cells → Beside work mid cells l → Beside mid work′ cells′ l → Beside work work′ cells l
 beside-then work mid work′ cells cells′ l e A B = record { long = B .long ∙ A .long; ahead = λ i h. B .ahead i h ∙ A .ahead i h; beyond = λ i h. B .beyond i (omega (arith, e)) ∙ A .beyond i h }
 
 module _ (work words cells₀ flex : List ℕ) (l : Copying) (st : Store) (memo : Memo) (g : Counts) (top : ℕ) where
+  -- the store's nodes
   abbrev s : List Node
   s = nodes words st
 
+  -- where the frame stands
   abbrev at : ℕ
   at = l .walk + 2 * top
 
+  -- its pattern
   abbrev p : ℕ
   p = getD work at 0
 
+  -- how many arguments it has taken
   abbrev taken : ℕ
   taken = getD work (at + 1) 0
 
+  -- its node
   abbrev n : Node
   n = getD s p noNode
 
@@ -61,12 +67,15 @@ module _ (work words cells₀ flex : List ℕ) (l : Copying) (st : Store) (memo 
   pub ready-inside : Ready work words cells₀ flex l st memo g (suc top) → at + 1 < length work
   ready-inside R = turn-inside work words cells₀ flex l st memo g top (R .0) (R .1) (R .2)
 
+  -- a node
   pub ready-given : Ready work words cells₀ flex l st memo g (suc top) → p < length s
   ready-given R = turn-given work words cells₀ flex l st memo g top (R .0) (R .1) (R .2)
 
+  -- one that the memo has a place for
   pub ready-known : Ready work words cells₀ flex l st memo g (suc top) → p < length (recall (tableIn work l) memo)
   ready-known R = turn-known work words cells₀ flex l st memo g top (R .0) (R .1) (R .2)
 
+  -- with a key as copying asks
   pub ready-key : Ready work words cells₀ flex l st memo g (suc top) → (key : List ℕ) → key ≡ keyOf n → Key work l memo key
   ready-key R key K = subst (λ (xs : List ℕ). Key work l memo xs) (sym K) (turn-key work words cells₀ flex l st memo g top (R .0) (R .1) (R .2))
 
@@ -80,36 +89,45 @@ module _ (work words cells₀ flex : List ℕ) (l : Copying) (st : Store) (memo 
   -- it stays
   module _ (R : Ready work words cells₀ flex l st memo g (suc top)) (b : Bool) (e : b ≡ (eqb taken 0 and isSome (valueIn work l memo p))) (f : b ≡ false)
       (key : List ℕ) (K : key ≡ keyOf n) where
+    -- how many arguments it has
     kids-are : length (below (nodeWith key)) ≡ length (kidsIn s p)
     unfolding nodeWith
     kids-are = ap (λ (xs : List ℕ). length (below (nodeWith xs))) K
 
     -- an argument is left
     module _ (h : taken < length (below (nodeWith key))) where
+      -- it is one of the node's
       left-over : taken < length (kidsIn s p)
       left-over = omega (arith, kids-are)
 
+      -- so the node is no variable
       no-variable : isVariable n ≡ false
       no-variable = elim (see (isVariable n)) [
         | is true v ↦ absurd (omega (arith, left-over, ap length (below-variable n v)))
         | is false v ↦ v
       ]
 
+      -- few were taken
       taken-few : taken < 16
       taken-few = omega (arith, left-over, ap length (below-applied n no-variable), R .0 .few p (ready-given R) no-variable)
 
+      -- its word stands in the key
       taken-key : taken + 1 < length key
       taken-key = omega (arith, left-over, ap length (below-applied n no-variable), ap length K)
 
+      -- there is room for its frame
       enter-room : at + 3 < l .variables
       enter-room = omega (arith, entered-room work words cells₀ flex l st memo g top (R .0) (R .1) (R .2) b e f left-over, R .2 .holds .room .stack)
 
+      -- within the words
       pub enter-inside : at + 3 < length work
       enter-inside = omega (arith, enter-room, R .2 .holds .apart .marks, R .2 .holds .apart .rows)
 
+      -- it is the next
       next-is : getD key (taken + 1) 0 ≡ getD (kidsIn s p) taken 0
       next-is = ap (λ (xs : List ℕ). getD xs (taken + 1) 0) K ∙ ap (λ (i : ℕ). getD (keyOf n) i 0) (add-one taken) ∙ ap (λ (xs : List ℕ). getD xs taken 0) (sym (below-applied n no-variable))
 
+      -- it gets a frame
       advance-entering : Advances work (entering work (l .walk) top (getD key (taken + 1) 0) taken) words cells₀ cells₀ flex l st memo g top (turns.On (top + 2) g)
       advance-entering =
           let q = getD key (taken + 1) 0 in
@@ -123,14 +141,17 @@ module _ (work words cells₀ flex : List ℕ) (l : Copying) (st : Store) (memo 
             record { long = O .long; ahead = λ i m. O .before i (omega (arith, A .table)); beyond = λ i m. O .behind i (omega (arith, A .marks)) },
           )
 
+    -- what looking for one asks
     pub ready-deeper : Deeper work at key
     ready-deeper = record { some = omega (arith, ap length K); inside = ready-inside R; room = λ h. (enter-inside h, taken-few h, taken-key h) }
 
     -- its next argument gets a frame
     module _ (work₁ : List ℕ) (d : Bool) (D : Deepens work work₁ at key d) where
+      -- the count of frames is a number still
       pub advance-room : d ≡ true → top + 2 < length work
       advance-room t = let D₁ = subst (λ (o : Bool). Deepens work work₁ at key o) t D in omega (arith, enter-inside (D₁ .0))
 
+      -- that is a turn
       pub advance-entered : d ≡ true → Advances work work₁ words cells₀ cells₀ flex l st memo g top (turns.On (top + 2) g)
       advance-entered t =
           let D₁ = subst (λ (o : Bool). Deepens work work₁ at key o) t D in
@@ -138,9 +159,11 @@ module _ (work words cells₀ flex : List ℕ) (l : Copying) (st : Store) (memo 
 
       -- no argument is left: nothing was written
       module _ (u : d ≡ false) where
+        -- what was answered
         D₂ : Deepens work work₁ at key false
         D₂ = subst (λ (o : Bool). Deepens work work₁ at key o) u D
 
+        -- all were taken
         none-left : length (kidsIn s p) ≤ taken
         none-left = omega (arith, kids-are, D₂ .0)
 
@@ -148,11 +171,13 @@ module _ (work words cells₀ flex : List ℕ) (l : Copying) (st : Store) (memo 
         abbrev Ripe : List ℕ → Type 0
         Ripe xs = Apart xs cells₀ flex l × Holds cells₀ (rowsIn xs cells₀ l) g × Key xs l memo key × Remembers (tableIn xs l) memo × (p < length (recall (tableIn xs l) memo))
 
+        -- it is given
         pub ready-ripe : Ripe work₁
         ready-ripe =
             let H = R .2 .holds in
             subst Ripe (sym (D₂ .1)) (H .apart, (R .1 .graph, H .shows), ready-key R key K, H .remembers, ready-known R)
 
+        -- that is a turn, too
         pub advance-finished : (work′ cells′ : List ℕ) → length cells′ ≡ length cells₀ → (r : Turn) → Finishes work₁ work′ cells₀ cells′ flex l memo g p key top r → Advances work work′ words cells₀ cells′ flex l st memo g top r
         advance-finished work′ cells′ long (turns.On k g′) F₀ =
             let F₁ = subst (λ (xs : List ℕ). Finishes xs work′ cells₀ cells′ flex l memo g p key top (turns.On k g′)) (D₂ .1) F₀ in

@@ -57,11 +57,13 @@ rows-part a b c m xs ys h k same i l = part-at a (c - a) ys i (omega arith) ∙ 
 
 module _ (work words cells₀ flex : List ℕ) (l : Copying) (st : Store) (memo : Memo) (g : Counts) (Y : Given work words cells₀ flex l st memo g) (p : ℕ) (given : p < length (nodes words st))
     (work₁ : List ℕ) (fresh : Memo) (B : Begins work work₁ flex l p fresh) where
+  -- the regions as the leaves ask for them
   apart : Apart work cells₀ flex l
   apart = let L = Y .laid in record { index = L .index; table = omega (arith, L .table); stack = omega (arith, L .stack); marks = L .marks; rows = omega (arith, L .rows, L .inside) }
 
   -- ---- the beginning
   module _ (h : Graph) (S : Shows cells₀ (graphIn work l) g h) (I : Inner h) where
+    -- the graph is held, with nothing copied
     first-held : Holding work₁ words cells₀ flex l st fresh g (noCopy h)
     unfolding valueOf
     first-held =
@@ -81,6 +83,7 @@ module _ (work words cells₀ flex : List ℕ) (l : Copying) (st : Store) (memo 
           variables = B .variables;
         }
 
+    -- the pattern has a frame
     one-frame : framesIn work₁ (l .walk) 1 ≡ frame p 0 ∷ []
     unfolding framesIn
     one-frame =
@@ -88,6 +91,7 @@ module _ (work words cells₀ flex : List ℕ) (l : Copying) (st : Store) (memo 
         let b : l .walk + 2 * 0 + 1 ≡ l .walk + 1 = omega arith in
         ap₂ (λ (x i : ℕ). frame x i ∷ []) (ap (λ (j : ℕ). getD work₁ j 0) a ∙ B .node) (ap (λ (j : ℕ). getD work₁ j 0) b ∙ B .taken)
 
+    -- so a walk begins
     pub first-going : Going work₁ words cells₀ flex l st fresh (Y .patterns) g 1 (noCopy h)
     first-going =
         let s = nodes words st in
@@ -110,40 +114,50 @@ module _ (work words cells₀ flex : List ℕ) (l : Copying) (st : Store) (memo 
         ∙ walk-fuel (kidsIn s) isCopied f (λ m. m) (kids-fall s (Y .patterns .earlier)) (length s) (suc p) (p ∷ []) (noCopy h) (given, tt) (omega arith, tt)
         ∙ sym (copy-walk s (marksIn flex) h p)
 
+  -- whatever inner graph is held
   pub first-ready : Ready work₁ words cells₀ flex l st fresh g 1
   first-ready = (Y .patterns, noCopy (Y .graph .0), first-going (Y .graph .0) (Y .graph .1) (Y .graph .2))
 
   -- ---- the end
   module _ (work₂ cells₂ : List ℕ) where
+    -- what was written is apart
     beside-both : Beside work₁ work₂ cells₀ l → Beside work work₂ cells₀ l
     beside-both N =
         let O = B .outside in
         record { long = N .long ∙ O .long; ahead = λ i a. N .ahead i a ∙ O .before i a; beyond = λ i a. N .beyond i a ∙ O .behind i (omega (arith, Y .laid .marks)) }
 
+    -- there was no room
     pub copies-short : (r : Turn) → r ≡ turns.Short → Runs work₁ work₂ words cells₀ cells₂ flex l st fresh g 1 r → Copies work work₂ words cells₀ cells₂ flex l st g p answers.Short
     copies-short r e R₀ =
         let R = subst (λ (o : Turn). Runs work₁ work₂ words cells₀ cells₂ flex l st fresh g 1 o) e R₀ in
         (λ h S I. omega (arith, R .0 (Y .patterns) (noCopy h) (first-going h S I), ap (λ (d : Copy). cells (d .graph)) (whole h S I)), beside-both (R .1))
 
     module _ (k : ℕ) (g′ : Counts) (r : Turn) (e : r ≡ turns.On k g′) (R₀ : Runs work₁ work₂ words cells₀ cells₂ flex l st fresh g 1 r) where
+      -- the run's answer
       R : Runs work₁ work₂ words cells₀ cells₂ flex l st fresh g 1 (turns.On k g′)
       R = subst (λ (o : Turn). Runs work₁ work₂ words cells₀ cells₂ flex l st fresh g 1 o) e R₀
 
+      -- the definition's copy is held
       held : (h : Graph) → Shows cells₀ (graphIn work l) g h → Inner h → Holding work₂ words cells₂ flex l st fresh g′ (copy (nodes words st) (marksIn flex) h p)
       held h S I = subst (λ (d : Copy). Holding work₂ words cells₂ flex l st fresh g′ d) (whole h S I) (R .0 (Y .patterns) (noCopy h) (first-going h S I))
 
+      -- of the graph that is given, too
       any-held : Holding work₂ words cells₂ flex l st fresh g′ (copy (nodes words st) (marksIn flex) (Y .graph .0) p)
       any-held = held (Y .graph .0) (Y .graph .1) (Y .graph .2)
 
+      -- what reading the pattern's copy asks
       pub end-table : l .copied ≤ l .walk
       end-table = apart .table
 
+      -- its table is within
       pub end-inside : l .walk ≤ length work₂
       end-inside = let A = any-held .apart in omega (arith, A .stack, A .marks, A .rows)
 
+      -- and has a place for it
       pub end-known : p < length (recall (tableIn work₂ l) fresh)
       end-known = omega (arith, given, memo-room work₂ words cells₂ flex l st fresh (any-held .apart) (any-held .room) (any-held .stored))
 
+      -- the answer
       pub copies-at : length cells₂ ≡ length cells₀ → (x : Id) → x .0 ≡ copyIn work₂ l fresh p → Copies work work₂ words cells₀ cells₂ flex l st g p (answers.At x g′ fresh)
       copies-at long x f = (
         λ h S I.

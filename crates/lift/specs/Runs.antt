@@ -67,7 +67,7 @@ right-alike : (P : Pack) (s t : Lifting) → Alike s t → Right P t → Right P
 right-alike P s t a r n q v = let e = a .store in rw e (r n q (sym (a .memo n) ∙ v))
 
 -- ---- the words of a store written over those of one that it grew from
-written-again : (s t : List Node) (words : List ℕ) → Grows s t → written t (written s words) ≡ written t words
+pub written-again : (s t : List Node) (words : List ℕ) → Grows s t → written t (written s words) ≡ written t words
 unfolding written
 written-again s t words (with more e) =
     let a : List ℕ = patternWords s in

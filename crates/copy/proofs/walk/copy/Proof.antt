@@ -8,15 +8,17 @@ use Rattle.copy.proofs.walk.copy.Tie as tie
 run-requires : tie.Need-run-requires
 run-requires c κs =
     let s = c .before .before .before .before .before .before .before .before .before .before in
-    first-ready _ _ _ _ _ _ _ _ (s .pre .0) _ (s .pre .1) _ _ (c .before .before .before .before .begin .ensures)
+    let a = s .args in
+    first-ready (a .work .now) (a .words .now) (a .cells .now) (a .flex .now) (a .l) (a .st) (a .memo) (a .g) (s .pre .0) (a .p .0) (s .pre .1) (c .before .before .before .before .begin .last .0) (c .before .before .before .before .begin .result) (c .before .before .before .before .begin .ensures)
 
 copy-of-requires : tie.Need-copy-of-requires
 copy-of-requires c κs =
     let s = c .before .before .before .before .before .before .before .before .before .before .before .before .before .before .before .before .before .before .before in
+    let a = s .args in
     let v = c .before .before .before .before .before .before .before .before .run in (
-      end-table _ _ _ _ _ _ _ _ (s .pre .0) _ (s .pre .1) _ _ (c .before .before .before .before .before .before .before .before .before .before .before .before .before .begin .ensures) (v .last .0) (v .last .1 .1 .0) _ _ (v .result) (c .before .before .h .given .1) (v .ensures),
-      end-inside _ _ _ _ _ _ _ _ (s .pre .0) _ (s .pre .1) _ _ (c .before .before .before .before .before .before .before .before .before .before .before .before .before .begin .ensures) (v .last .0) (v .last .1 .1 .0) _ _ (v .result) (c .before .before .h .given .1) (v .ensures),
-      end-known _ _ _ _ _ _ _ _ (s .pre .0) _ (s .pre .1) _ _ (c .before .before .before .before .before .before .before .before .before .before .before .before .before .begin .ensures) (v .last .0) (v .last .1 .1 .0) _ _ (v .result) (c .before .before .h .given .1) (v .ensures),
+      end-table (a .work .now) (a .words .now) (a .cells .now) (a .flex .now) (a .l) (a .st) (a .memo) (a .g) (s .pre .0) (a .p .0) (s .pre .1) (c .before .before .before .before .before .before .before .before .before .before .before .before .before .begin .last .0) (c .before .before .before .before .before .before .before .before .before .before .before .before .before .begin .result) (c .before .before .before .before .before .before .before .before .before .before .before .before .before .begin .ensures) (v .last .0) (v .last .1 .1 .0) _ _ (v .result) (c .before .before .h .given .1) (v .ensures),
+      end-inside (a .work .now) (a .words .now) (a .cells .now) (a .flex .now) (a .l) (a .st) (a .memo) (a .g) (s .pre .0) (a .p .0) (s .pre .1) (c .before .before .before .before .before .before .before .before .before .before .before .before .before .begin .last .0) (c .before .before .before .before .before .before .before .before .before .before .before .before .before .begin .result) (c .before .before .before .before .before .before .before .before .before .before .before .before .before .begin .ensures) (v .last .0) (v .last .1 .1 .0) _ _ (v .result) (c .before .before .h .given .1) (v .ensures),
+      end-known (a .work .now) (a .words .now) (a .cells .now) (a .flex .now) (a .l) (a .st) (a .memo) (a .g) (s .pre .0) (a .p .0) (s .pre .1) (c .before .before .before .before .before .before .before .before .before .before .before .before .before .begin .last .0) (c .before .before .before .before .before .before .before .before .before .before .before .before .before .begin .result) (c .before .before .before .before .before .before .before .before .before .before .before .before .before .begin .ensures) (v .last .0) (v .last .1 .1 .0) _ _ (v .result) (c .before .before .h .given .1) (v .ensures),
     )
 
 same-length : tie.Need-same-length
@@ -28,8 +30,9 @@ same-length-2 c = c .before .before .before .before .before .before .before .bef
 returns : tie.Need-returns
 returns c =
     let s = c .before .before .before .before .before .before .before .before .before .before .before .before .before .before .before .before .before .before .before .before in
+    let a = s .args in
     let v = c .before .before .before .before .before .before .before .before .before .run in
-    copies-at _ _ _ _ _ _ _ _ (s .pre .0) _ (s .pre .1) _ _ (c .before .before .before .before .before .before .before .before .before .before .before .before .before .before .begin .ensures) (v .last .0) (v .last .1 .1 .0) _ _ (v .result) (c .before .before .before .h .given .1) (v .ensures) (v .kept .1 .1 .0) _ (c .copy-of .ensures)
+    copies-at (a .work .now) (a .words .now) (a .cells .now) (a .flex .now) (a .l) (a .st) (a .memo) (a .g) (s .pre .0) (a .p .0) (s .pre .1) (c .before .before .before .before .before .before .before .before .before .before .before .before .before .before .begin .last .0) (c .before .before .before .before .before .before .before .before .before .before .before .before .before .before .begin .result) (c .before .before .before .before .before .before .before .before .before .before .before .before .before .before .begin .ensures) (v .last .0) (v .last .1 .1 .0) _ _ (v .result) (c .before .before .before .h .given .1) (v .ensures) (v .kept .1 .1 .0) _ (c .copy-of .ensures)
 
 same-length-3 : tie.Need-same-length-3
 same-length-3 c = c .before .before .before .before .before .before .run .kept .0 ∙ c .before .before .before .before .before .before .before .before .before .before .before .begin .kept .0
@@ -40,8 +43,9 @@ same-length-4 c = c .before .before .before .before .before .before .run .kept .
 returns-2 : tie.Need-returns-2
 returns-2 c =
     let s = c .before .before .before .before .before .before .before .before .before .before .before .before .before .before .before .before .before in
+    let a = s .args in
     let v = c .before .before .before .before .before .before .run in
-    copies-short _ _ _ _ _ _ _ _ (s .pre .0) _ (s .pre .1) _ _ (c .before .before .before .before .before .before .before .before .before .before .before .begin .ensures) (v .last .0) (v .last .1 .1 .0) (v .result) (c .enum-told .given .1) (v .ensures)
+    copies-short (a .work .now) (a .words .now) (a .cells .now) (a .flex .now) (a .l) (a .st) (a .memo) (a .g) (s .pre .0) (a .p .0) (s .pre .1) (c .before .before .before .before .before .before .before .before .before .before .before .begin .last .0) (c .before .before .before .before .before .before .before .before .before .before .before .begin .result) (c .before .before .before .before .before .before .before .before .before .before .before .begin .ensures) (v .last .0) (v .last .1 .1 .0) (v .result) (c .enum-told .given .1) (v .ensures)
 
 pub copy-spec : {M : Type 1} → statement M
 copy-spec =

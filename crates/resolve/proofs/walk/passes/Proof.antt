@@ -1,0 +1,26 @@
+-- `passes` meets its contract.
+use borrow.Author.Needs.{needs}
+use native.Mathlib.Omega.{arith}
+use mathlib.Core.Path.{ap, _∙_}
+use lib.Dec.{ltb}
+use Rattle.lift.specs.Memo.{dropped-not, dropped-new}
+use Rattle.resolve.proofs.walk.passes.Statement.{statement}
+use Rattle.resolve.proofs.walk.passes.Tie as tie
+
+returns : tie.Need-returns
+returns c = dropped-not _ _ (c .if1 .taken)
+
+returns-2 : tie.Need-returns-2
+returns-2 c = ap (ltb 0) (c .word-at .ensures) ∙ dropped-new _ _ (c .before .before .if1 .left)
+
+pub passes-spec : {M : Type 1} → statement M
+passes-spec =
+    tie.close
+    (tie.spec
+    returns
+    (λ c. search needs)
+    (λ c. search needs)
+    (λ c. search needs)
+    (λ c. search needs)
+    (λ c κs. search needs)
+    returns-2)
