@@ -32,6 +32,7 @@ host: dock
 
 bench: tools dock
 	@rt staticlib interner > target/interner.log 2>&1 || { cat target/interner.log; exit 1; }
+	@rt staticlib unifier > target/unifier.log 2>&1 || { cat target/unifier.log; exit 1; }
 	@rt staticlib parser > target/parser.log 2>&1 || { cat target/parser.log; exit 1; }
 	@HORN_SRC=$(realpath $(HORN)) RATTLE_LIB=$(CURDIR)/target/staticlib $(CARGO) build --offline --locked --release --quiet --manifest-path tools/Cargo.toml -p bench --features original
 	@$(TOOLS)/bench intern

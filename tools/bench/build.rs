@@ -1,6 +1,8 @@
 //! Links the library's archives from the folder that RATTLE_LIB names. With the feature
 //! `original` the original's published files are modules where they stand, in the
 //! folder that HORN_SRC names: nothing is added to them, so they run at their own speed.
+//! Behind a copy of the one that has the graph stands a module more, `door`, for the
+//! test of unification.
 use std::path::{Path, PathBuf};
 use std::{env, fs, process};
 
@@ -31,21 +33,27 @@ fn named(variable: &str, what: &str, files: &[&str]) -> Vec<PathBuf> {
 fn main() {
     let archives = named(
         "RATTLE_LIB",
-        "the library's archives (it has libdock.a, libinterner.a and libparser.a)",
-        &["libdock.a", "libinterner.a", "libparser.a"],
+        "the library's archives (it has libdock.a, libinterner.a, libparser.a and libunifier.a)",
+        &["libdock.a", "libinterner.a", "libparser.a", "libunifier.a"],
     );
     if let Some(folder) = archives.first().and_then(|archive| archive.parent()) {
         println!("cargo::rustc-link-search=native={}", folder.display());
     }
-    for archive in ["dock", "interner", "parser"] {
+    for archive in ["dock", "interner", "parser", "unifier"] {
         println!("cargo::rustc-link-lib=static={archive}");
     }
 
     if env::var_os("CARGO_FEATURE_ORIGINAL").is_none() {
         return;
     }
+    let out = env::var_os("OUT_DIR").unwrap_or_else(|| fail("OUT_DIR is not set".into()));
+    let write = |file: &str, text: &str| {
+        let path = Path::new(&out).join(file);
+        fs::write(&path, text).unwrap_or_else(|e| fail(format!("{}: {e}", path.display())));
+        path
+    };
     let mut modules = String::new();
-    for path in named(
+    for mut path in named(
         "HORN_SRC",
         "the original's source (it has src/generalize.rs)",
         &[
@@ -55,10 +63,19 @@ fn main() {
             "src/schematic.rs",
         ],
     ) {
+        if path.ends_with("generalize.rs") {
+            let text = fs::read_to_string(&path)
+                .unwrap_or_else(|e| fail(format!("{}: {e}", path.display())));
+            let root = env::var_os("CARGO_MANIFEST_DIR")
+                .unwrap_or_else(|| fail("CARGO_MANIFEST_DIR is not set".into()));
+            let door = Path::new(&root).join("src/door.rs");
+            path = write(
+                "generalize.rs",
+                &format!("{text}\n#[path = {door:?}]\npub(crate) mod door;\n"),
+            );
+        }
         let name = path.file_stem().unwrap_or_default().display();
         modules += &format!("#[allow(dead_code, clippy::all)]\n#[path = {path:?}]\nmod {name};\n");
     }
-    let out = env::var_os("OUT_DIR").unwrap_or_else(|| fail("OUT_DIR is not set".into()));
-    let target = Path::new(&out).join("original.rs");
-    fs::write(&target, modules).unwrap_or_else(|e| fail(format!("{}: {e}", target.display())));
+    write("original.rs", &modules);
 }

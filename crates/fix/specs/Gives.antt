@@ -8,7 +8,7 @@ use lib.ListN.{length, set}
 use Rattle.definition.specs.Pack.{Pack, nodeOf}
 use Rattle.definition.specs.Verdict.{Bound}
 use Rattle.definition.specs.Store.{variableHead}
-use Rattle.definition.specs.Graph.{Graph, Pair, vertex, root}
+use Rattle.definition.specs.Graph.{Graph, Pair, vertex}
 use Rattle.definition.specs.Analysis.{pairing}
 use Rattle.base.specs.Listed.{length-listed}
 use Rattle.catalog.specs.Region.{countIn, placeIn, places}
@@ -17,7 +17,7 @@ use Rattle.catalog.specs.declared.whole.Catalog.{Catalog}
 use Rattle.pack.specs.Reads.{Reads}
 use Rattle.pack.specs.Says.{OfPack}
 use Rattle.pack.specs.Held.{reads-on, reads-back}
-use Rattle.theory.specs.Walks.Ahead.{ahead}
+use Rattle.theory.specs.Walks.Ahead.{ahead, ahead-unlike}
 use Rattle.theory.specs.Walks.Valuing.{valuing, takeValue}
 use Rattle.graph.specs.declared.graph.Graph.{Graph as Counts}
 use Rattle.graph.specs.Cells.{rowsEnd, Shows, rows-set, shows-rows}
@@ -30,7 +30,7 @@ use Rattle.fix.specs.declared.walk.Turn.the-variants.{On, Unlike}
 use Rattle.fix.specs.Words.{valuesAt, tableIn, Stands, Framed, Values, Says, few-nodes, stands-value, table-room, framed-none, framed-then, framed-same, values-on}
 use Rattle.fix.specs.Stores.{ValueIs, PutsValue}
 use Rattle.fix.specs.Pushes.{Pushable, Pushes, ground-on}
-use Rattle.fix.specs.Taking.{ahead-unlike, take-variable, take-unlike, take-ahead}
+use Rattle.fix.specs.Taking.{take-variable, take-unlike, take-ahead}
 
 -- what a turn with the root `at` of whatever graph is held and ground node n answers: the pairs and values that are left, or that there are none
 abbrev pub Gives : (bytes work work′ words : List ℕ) (c : Catalog) (l : Valued) (s : Counts) (top : ℕ) (at : Graph → ℕ) (n : ℕ) → Turn → Type 0

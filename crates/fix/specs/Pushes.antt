@@ -1,11 +1,10 @@
 -- Arguments side by side are put on the worklist, the first ones on top.
 use mathlib.Core.Path.{_≡_, refl, sym, ap, ap₂, subst, _∙_}
-use mathlib.Core.List.{List, [], _∷_}
-use mathlib.Core.Option.{Option, none, some}
-use Prim.Native.Nat.{ℕ, zero, suc, _+_, _*_, _-_, _≤_, _<_}
+use mathlib.Core.List.{List, _∷_}
+use mathlib.Core.Option.{some}
+use Prim.Native.Nat.{ℕ, suc, _+_, _*_, _-_, _≤_, _<_}
 use native.Mathlib.Omega.{arith}
 use lib.ListN.{length, getD, set, take}
-use lib.Seq.{take-all}
 use Rattle.definition.specs.Pack.{Pack, nodeOf}
 use Rattle.definition.specs.Graph.{Pair, vertex}
 use Rattle.catalog.specs.Whole.{recordsOf, Cataloged}
@@ -15,30 +14,13 @@ use Rattle.catalog.specs.declared.whole.Catalog.{Catalog}
 use Rattle.pack.specs.Reads.{Reads}
 use Rattle.pack.specs.Says.{Readable, OfPack}
 use Rattle.pack.specs.Held.{reads-on}
-use Rattle.theory.specs.Walks.Ahead.{beside, ahead}
+use Rattle.theory.specs.Walks.Ahead.{beside, ahead, ahead-turn, ahead-all, ahead-none}
 use Rattle.graph.specs.declared.graph.Graph.{Graph as Counts}
 use Rattle.graph.specs.Cells.{startIn, rowsEnd}
 use Rattle.graph.specs.Pairs.{ArityOf, ArgumentOf, pairsIn, pairs-more, argument-there}
 use Rattle.fix.specs.declared.words.Valued.{Valued}
 use Rattle.fix.specs.Words.{tableIn, Stands, Framed, Values, Says, stands-pair, table-room, framed-none, framed-then, framed-same, values-on}
 use Rattle.fix.specs.Stores.{PutsPair}
-
--- ---- pairs put ahead of others from the last one on
-ahead-turn : (xs ns : List ℕ) (i : ℕ) (w : List Pair) → i < length xs → i < length ns → ahead (take i xs) (take i ns) (beside (getD xs i 0) (getD ns i 0) ∷ w) ≡ ahead (take (suc i) xs) (take (suc i) ns) w
-unfolding ahead
-ahead-turn [] ns i w h k = absurd (omega arith)
-ahead-turn (x ∷ xs) [] i w h k = absurd (omega arith)
-ahead-turn (x ∷ xs) (n ∷ ns) zero w h k = refl
-ahead-turn (x ∷ xs) (n ∷ ns) (suc i) w h k = ap (λ (o : Option (List Pair)). elim o [ none ↦ none | some v ↦ some (beside x n ∷ v) ]) (ahead-turn xs ns i w (omega arith) (omega arith))
-
--- all arguments are still to be put there
-ahead-all : (xs ns : List ℕ) (k : ℕ) (w : List Pair) → length xs ≡ k → length ns ≡ k → ahead (take k xs) (take k ns) w ≡ ahead xs ns w
-ahead-all xs ns k w h m = ap₂ (λ (a b : List ℕ). ahead a b w) (take-all k xs (omega arith)) (take-all k ns (omega arith))
-
--- none is
-ahead-none : (xs ns : List ℕ) (w : List Pair) → ahead (take 0 xs) (take 0 ns) w ≡ some w
-unfolding ahead
-ahead-none xs ns w = refl
 
 -- as many nodes are recorded where nothing ahead of the table has changed
 pub ground-on : (bytes work work′ words : List ℕ) (c : Catalog) (l : Valued) (n : ℕ) → Cataloged bytes work c → endOf c ≤ l .at → Framed words l work work′ → n < length (recordsOf work c 3) → n < length (recordsOf work′ c 3)

@@ -1,9 +1,9 @@
 -- `takeValue` by cases, and what it leaves of the pairs' ground nodes.
-use mathlib.Core.Path.{_≡_, refl, ap}
+use mathlib.Core.Path.{_≡_}
 use mathlib.Core.Bool.{true, false}
-use mathlib.Core.List.{List, [], _∷_}
+use mathlib.Core.List.{List, _∷_}
 use mathlib.Core.Option.{Option, none, some}
-use Prim.Native.Nat.{ℕ, suc, _<_}
+use Prim.Native.Nat.{ℕ, _<_}
 use native.Mathlib.Omega.{arith}
 use borrow.Author.Tests.{eq-eqb, ne-eqb}
 use lib.Dec.{eqb}
@@ -16,30 +16,8 @@ use Rattle.definition.specs.Graph.{Graph, Pair, vertex, isVar}
 use Rattle.definition.specs.Analysis.{pairing}
 use Rattle.definition.specs.Laws.Tree.{args-below}
 use Rattle.definition.specs.Laws.Grow.{below-more}
-use Rattle.theory.specs.Walks.Ahead.{beside, rights, ahead}
+use Rattle.theory.specs.Walks.Ahead.{rights, ahead, ahead-rights}
 use Rattle.theory.specs.Walks.Valuing.{Valuing, valuing, takeValue}
-
--- where one side is longer nothing is put ahead
-pub ahead-unlike : (xs ns : List ℕ) (w : List Pair) → (length xs ≡ length ns → ⊥) → ahead xs ns w ≡ none
-unfolding ahead
-ahead-unlike [] [] w d = absurd (d refl)
-ahead-unlike [] (n ∷ ns) w d = refl
-ahead-unlike (x ∷ xs) [] w d = refl
-ahead-unlike (x ∷ xs) (n ∷ ns) w d = ap (λ (o : Option (List Pair)). elim o [ none ↦ none | some v ↦ some (beside x n ∷ v) ]) (ahead-unlike xs ns w (λ e. d (ap suc e)))
-
--- ground nodes below k ahead of others below k are below k
-ahead-rights : (k : ℕ) (xs ns : List ℕ) (work w : List Pair) → ahead xs ns work ≡ some w → Below k ns → Below k (rights work) → Below k (rights w)
-unfolding ahead
-ahead-rights k [] [] work w e b c = let q : work ≡ w = cc in rw (← q) c
-ahead-rights k [] (n ∷ ns) work w e b c = never (cc)
-ahead-rights k (x ∷ xs) [] work w e b c = never (cc)
-ahead-rights k (x ∷ xs) (n ∷ ns) work w e b c = elim (see (ahead xs ns work)) [
-  | is none p ↦ let z : none ≡ some w = rw (p, ahead) at e in never (cc)
-  | is (some v) p ↦
-      let z : some (beside x n ∷ v) ≡ some w = rw (p, ahead) at e in
-      let q : beside x n ∷ v ≡ w = cc in
-      rw (← q) (b .0, ahead-rights k xs ns work v p (b .1) c)
-]
 
 module _ (P : Pack) (g : Graph) (r n : ℕ) (work : List Pair) (vs : List Bound) where
   -- a root with a value must have this one

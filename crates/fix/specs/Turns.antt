@@ -1,19 +1,18 @@
 -- What a turn leaves: the pairs and values that are left give the same, and less is left.
 use mathlib.Core.Path.{_≡_, refl, sym, ap, _∙_}
-use mathlib.Core.Bool.{Bool, true, false}
+use mathlib.Core.Bool.{Bool}
 use mathlib.Core.List.{List}
 use mathlib.Core.Option.{Option, none, some}
-use Prim.Native.Nat.{ℕ, zero, suc, _+_, _-_, _<_}
+use Prim.Native.Nat.{ℕ, suc, _+_, _-_, _<_}
 use native.Mathlib.Omega.{arith}
 use lib.ListN.{length, getD}
-use Rattle.definition.specs.Test.{is, see}
 use Rattle.definition.specs.Pack.{Pack}
 use Rattle.definition.specs.Classes.{isSome}
 use Rattle.definition.specs.Verdict.{Bound, valueOf}
 use Rattle.definition.specs.Graph.{Graph, Pair, vertex, root}
 use Rattle.definition.specs.Analysis.{valued}
 use Rattle.pack.specs.Held.{Proper}
-use Rattle.theory.specs.Walks.WalkOnce.{unfinished}
+use Rattle.theory.specs.Walks.WalkOnce.{unfinished, unfinished-alike}
 use Rattle.theory.specs.Walks.Memo.{has}
 use Rattle.theory.specs.Walks.Ahead.{beside}
 use Rattle.theory.specs.Walks.Valuing.{valuing, takeValue, Taken, take-says}
@@ -34,20 +33,6 @@ worded words table x = markIn (getD table (valuesAt words + x) 0)
 unfoldable pub leftIn : List ℕ → List ℕ → Counts → ℕ
 unfolding worded
 leftIn words table s = unfinished (λ x. vertex (graphIn words table (s .nodes)) x .args) (worded words) (s .nodes) table
-
--- alike where nodes and what is known of them are
-unfinished-alike : {A B : Type 0} (kids kids′ : ℕ → List ℕ) (known : A → ℕ → Bool) (known′ : B → ℕ → Bool) (a : A) (b : B) (n : ℕ)
-    → ((x : ℕ) → x < n → kids x ≡ kids′ x) → ((x : ℕ) → x < n → known a x ≡ known′ b x) → unfinished kids known n a ≡ unfinished kids′ known′ n b
-unfolding unfinished
-unfinished-alike kids kids′ known known′ a b zero k e = refl
-unfinished-alike kids kids′ known known′ a b (suc n) k e =
-    let ih = unfinished-alike kids kids′ known known′ a b n (λ x h. k x (omega arith)) (λ x h. e x (omega arith)) in
-    let q = e n (omega arith) in
-    let long : length (kids n) ≡ length (kids′ n) = ap (λ (xs : List ℕ). length xs) (k n (omega arith)) in
-    elim (see (known a n)) [
-      | is true j ↦ let i = sym q ∙ j in rw (j, i, unfinished) ih
-      | is false j ↦ let i = sym q ∙ j in rw (j, i, unfinished) (omega arith)
-    ]
 
 -- a word that is not 0 is a value's
 mark-word : (o : Option ℕ) → markIn (wordOf o) ≡ isSome o

@@ -1,36 +1,29 @@
 -- Frames put on the stack, and the patterns' words cleared.
-use mathlib.Core.Path.{_≡_, refl, sym, ap, ap₂, _∙_, subst}
-use mathlib.Core.Bool.{Bool, true, false}
+use mathlib.Core.Path.{_≡_, refl, sym, ap, ap₂, _∙_}
 use mathlib.Core.List.{List, [], _∷_}
-use mathlib.Core.Option.{some}
-use Prim.Native.Nat.{ℕ, zero, suc, _+_, _*_, _-_, _≤_, _<_}
+use Prim.Native.Nat.{ℕ, suc, _+_, _*_, _-_, _≤_, _<_}
 use native.Mathlib.Omega.{arith}
 use native.Mathlib.Numerals.{add-one}
 use native.Mathlib.Decide.{decLt}
 use lib.ListN.{length, getD, set, take, drop, replicate, length-set, List·getD-eq-default}
 use lib.Seq.{getD-set-same, getD-set-other}
 use Rattle.definition.specs.Test.{never}
-use Rattle.definition.specs.Pack.{Pack}
-use Rattle.definition.specs.Verdict.{Bound, valueOf}
-use Rattle.definition.specs.Graph.{Graph, vertex, root}
+use Rattle.definition.specs.Verdict.{valueOf}
 use Rattle.definition.specs.Analysis.{numberOf}
-use Rattle.theory.specs.Walks.Machine.{Frame, frame}
+use Rattle.theory.specs.Walks.Machine.{frame}
 use Rattle.theory.specs.Walks.Reading.{numberedAs}
-use Rattle.theory.specs.Walks.Resolving.{resolving, right-none}
+use Rattle.theory.specs.Walks.Resolving.{right-none}
 use Rattle.base.specs.Part.{part, put, part-at, length-part}
 use Rattle.base.specs.Zero.{zeros-long, zeros-there, zeros-before, zeros-behind}
 use Rattle.store.specs.Stored.{nodes}
-use Rattle.store.specs.declared.nodes.Store.{Store}
-use Rattle.catalog.specs.declared.whole.Catalog.{Catalog}
 use Rattle.lift.specs.Lifts.{framesIn}
 use Rattle.lift.specs.Memo.{frames-same}
-use Rattle.lift.specs.declared.walk.Lifted.{Lifted}
 use Rattle.graph.specs.declared.graph.Graph.{Graph as Counts}
-use Rattle.graph.specs.Cells.{rowsEnd, Shows, nodes-few}
+use Rattle.graph.specs.Cells.{rowsEnd, nodes-few}
 use Rattle.graph.specs.Links.{Found}
 use Rattle.resolve.specs.declared.words.Table.{Table}
-use Rattle.resolve.specs.Words.{valuesAt, patternsAt, numbersAt, tableEnd, tableIn, marksIn, wordOf, Fixes, Lies, Holding, Moves}
-use Rattle.resolve.specs.Moved.{table-at, table-set, table-long, nodes-most, moves-then, moves-set, lentBack, found-moves}
+use Rattle.resolve.specs.Words.{patternsAt, tableEnd, tableIn, marksIn, Moves}
+use Rattle.resolve.specs.Moved.{table-at, table-set, table-long, moves-then, moves-set, found-moves}
 use Rattle.resolve.specs.Asked.{Asking, Rooted, finds-moves, finds-word}
 use Rattle.resolve.specs.Given.{lies-same}
 use Rattle.resolve.specs.Stacks.{framesOf, Entering, Enters, Begins, Clears}

@@ -1,48 +1,44 @@
 -- A variable read back by its number or by its value, and an application over its arguments.
-use mathlib.Core.Path.{_≡_, refl, sym, ap, ap₂, _∙_, subst}
-use mathlib.Core.Bool.{Bool, true, false, _||_}
+use mathlib.Core.Path.{_≡_, refl, sym, ap, ap₂, _∙_}
+use mathlib.Core.Bool.{Bool, true, false}
 use mathlib.Core.List.{List, [], _∷_, _++_, map}
-use mathlib.Core.Option.{Option, none, some}
+use mathlib.Core.Option.{none, some}
 use Prim.Native.Nat.{ℕ, zero, suc, _+_, _*_, _-_, _≤_, _<_}
 use native.Mathlib.Omega.{arith}
-use native.Mathlib.Numerals.{add-one}
 use lib.ListN.{length, getD, set, take, drop, length-set}
-use lib.Seq.{getD-set-same, getD-set-other}
+use lib.Seq.{getD-set-other}
 use Rattle.definition.specs.Test.{is, see, never}
 use Rattle.definition.specs.Pack.{Node, Pack}
 use Rattle.definition.specs.Good.{Below}
 use Rattle.definition.specs.Tree.{treeOf}
 use Rattle.definition.specs.Verdict.{Bound, valueOf}
-use Rattle.definition.specs.Store.{Stored as Placing, variableHead, variableNode, intern, patternWords}
-use Rattle.definition.specs.Graph.{Graph, vertex, root, isVar}
+use Rattle.definition.specs.Store.{Stored as Placing, variableHead, variableNode, intern}
+use Rattle.definition.specs.Graph.{Graph, vertex, root}
 use Rattle.definition.specs.Analysis.{copied, lift, ResolvedOne, numberOf, resolveVariable, resolveAt}
-use Rattle.theory.specs.Patterns.Interned.{interned, lifted}
 use Rattle.theory.specs.Unification.Forest.{root-inside}
 use Rattle.theory.specs.Walks.Again.{stored, headed}
 use Rattle.theory.specs.Walks.Memo.{has, has-value}
 use Rattle.theory.specs.Walks.Reading.{numberedAs, resolvedOne}
 use Rattle.theory.specs.Walks.Resolving.{Resolving, isRead}
-use Rattle.base.specs.Part.{part, part-at, part-set, part-set-before, part-set-behind, part-more, length-part}
+use Rattle.base.specs.Part.{part, part-at, length-part}
 use Rattle.base.specs.Probe.{taken}
 use Rattle.store.specs.Words.{nodeWith, node-of}
-use Rattle.store.specs.Stored.{nodes, written}
+use Rattle.store.specs.Stored.{nodes}
 use Rattle.store.specs.declared.nodes.Store.{Store}
-use Rattle.store.specs.declared.nodes.Interned.the-variants.{Id, Short}
-use Rattle.base.specs.declared.id.Pattern.{Pattern}
 use Rattle.catalog.specs.declared.whole.Catalog.{Catalog}
 use Rattle.pack.specs.Held.{reads-on}
-use Rattle.lift.specs.Lifts.{Lifts, Apart, Answers}
+use Rattle.lift.specs.Lifts.{Lifts, Apart}
 use Rattle.lift.specs.Nodes.{laid-same}
 use Rattle.lift.specs.declared.walk.Lifted.{Lifted}
 use Rattle.graph.specs.declared.graph.Graph.{Graph as Counts}
-use Rattle.graph.specs.Cells.{rowsEnd, Shows, rows-set, shows-rows}
+use Rattle.graph.specs.Cells.{rowsEnd, shows-rows}
 use Rattle.resolve.specs.declared.words.Table.{Table}
-use Rattle.resolve.specs.declared.root.Resolved.the-variants as read
-use Rattle.resolve.specs.Words.{valuesAt, patternsAt, numbersAt, tableEnd, tableIn, marksIn, wordOf, Stands, Says, Lies, Holding, Framed, Moves}
-use Rattle.resolve.specs.Kept.{lifts-on, Indexed, Interns, number-fits}
-use Rattle.resolve.specs.Moved.{table-at, table-set, table-long, nodes-most, numbers-most, table-room, framed-moves, lies-moves, holding-moves, table-apart, lies-apart, framed-apart, framed-none, framed-then}
-use Rattle.resolve.specs.Asked.{Graphed, Asking, Ripe, Keyed, patternOf, Finds, finds-moves, finds-word, graph-long, sort-of}
-use Rattle.resolve.specs.Roots.{Open, Named, Fixed, Applied, Opening, readsAs, Given, Gives}
+use Rattle.resolve.specs.Words.{valuesAt, patternsAt, numbersAt, tableEnd, tableIn, marksIn, wordOf, Says, Lies, Holding, Framed}
+use Rattle.resolve.specs.Kept.{lifts-on}
+use Rattle.resolve.specs.Moved.{taken-most, table-at, table-long, nodes-most, table-room, table-apart, lies-apart}
+use Rattle.resolve.specs.Asked.{graph-long, sort-of}
+use Rattle.resolve.specs.Keys.{patternOf}
+use Rattle.resolve.specs.Roots.{Open, Named, Fixed, Applied, readsAs, Given}
 
 -- ---- what the words say of a root
 -- a root has a word in the table that says whether it was read back
@@ -82,12 +78,7 @@ unread-none cells table words g st n s S x u = elim (see (numberOf x (s .state .
 pub taken-less : (xs : List ℕ) (i : ℕ) → i < length xs → getD xs i 0 ≡ 0 → taken xs < length xs
 unfolding taken
 taken-less [] i l e = absurd (omega arith)
-taken-less (zero ∷ xs) zero l e = omega (arith, taken-all xs)
-  where
-    taken-all : (ys : List ℕ) → taken ys ≤ length ys
-    taken-all [] = omega arith
-    taken-all (zero ∷ ys) = omega (arith, taken-all ys)
-    taken-all (suc y ∷ ys) = omega (arith, taken-all ys)
+taken-less (zero ∷ xs) zero l e = omega (arith, taken-most xs)
 taken-less (zero ∷ xs) (suc i) l e = let h = taken-less xs i (omega arith) e in omega arith
 taken-less (suc y ∷ xs) zero l e = absurd (omega (arith, e))
 taken-less (suc y ∷ xs) (suc i) l e = let h = taken-less xs i (omega arith) e in omega arith

@@ -1,39 +1,28 @@
 -- What writing leaves of lifting's words, of the table and of what was read back.
-use mathlib.Core.Path.{_≡_, refl, sym, ap, ap₂, _∙_, subst}
-use mathlib.Core.Bool.{Bool}
+use mathlib.Core.Path.{_≡_, sym, ap, ap₂, _∙_, subst}
 use mathlib.Core.List.{List}
-use mathlib.Core.Option.{some}
-use Prim.Native.Nat.{ℕ, suc, _+_, _*_, _-_, _≤_, _<_}
+use Prim.Native.Nat.{ℕ, _+_, _-_, _≤_, _<_}
 use native.Mathlib.Omega.{arith}
-use lib.ListN.{length, getD, set, length-set}
-use Rattle.definition.specs.Pack.{Pack}
+use lib.ListN.{length, getD}
 use Rattle.definition.specs.Tree.{treeOf}
-use Rattle.definition.specs.Verdict.{Bound, valueOf}
-use Rattle.definition.specs.Graph.{Graph}
-use Rattle.definition.specs.Store.{Stored as Placing, intern, patternWords}
+use Rattle.definition.specs.Verdict.{valueOf}
+use Rattle.definition.specs.Store.{intern, patternWords}
 use Rattle.theory.specs.Patterns.Interned.{Grows, interned}
 use Rattle.theory.specs.Walks.Again.{stored, lift-again}
 use Rattle.theory.specs.Walks.Lifting.{Right as LiftsRight}
-use Rattle.theory.specs.Walks.Resolving.{Resolving}
-use Rattle.base.specs.Part.{part, put, part-same, part-at, part-put, length-part, length-put, put-before, put-behind, part-put-before}
+use Rattle.base.specs.Part.{put, part-same, part-put, length-part, length-put, put-before, put-behind, part-put-before}
 use Rattle.store.specs.Words.{nodeWith, begins-long, words-most}
 use Rattle.store.specs.Stored.{Stored, nodes, written, Answer}
 use Rattle.store.specs.declared.nodes.Store.{Store}
 use Rattle.store.specs.declared.nodes.Interned.{Interned}
 use Rattle.store.specs.declared.nodes.Interned.the-variants.{Id, Short}
 use Rattle.base.specs.declared.id.Pattern.{Pattern}
-use Rattle.catalog.specs.Whole.{recordsOf}
 use Rattle.catalog.specs.declared.whole.Catalog.{Catalog}
-use Rattle.pack.specs.Reads.{Reads}
-use Rattle.pack.specs.Held.{reads-on, reads-back}
-use Rattle.lift.specs.Lifts.{indexAt, marks, indexIn, memoFrom, liftedIn, Laid, Lifts, Apart}
+use Rattle.pack.specs.Held.{reads-back}
+use Rattle.lift.specs.Lifts.{indexAt, marks, indexIn, memoFrom, liftedIn, Lifts, Apart}
 use Rattle.lift.specs.Memo.{lifted-same}
 use Rattle.lift.specs.Nodes.{laid-same, laid-on}
 use Rattle.lift.specs.declared.walk.Lifted.{Lifted}
-use Rattle.graph.specs.declared.graph.Graph.{Graph as Counts}
-use Rattle.graph.specs.Cells.{Shows, nodes-few}
-use Rattle.resolve.specs.declared.words.Table.{Table}
-use Rattle.resolve.specs.Words.{valuesAt, patternsAt, numbersAt, tableEnd, tableIn, marksIn, Stands, Says, Lies, Holding, Framed, Moves}
 
 -- ---- what is written behind lifting's words leaves them
 pub lifts-on : (bytes work words : List ℕ) (c : Catalog) (l : Lifted) (st : Store) (work′ : List ℕ) → length work′ ≡ length work → ((i : ℕ) → i < l .end → getD work′ i 0 ≡ getD work i 0)

@@ -3,6 +3,7 @@ pub mod Words
 pub mod Kept
 pub mod Moved
 pub mod Asked
+pub mod Keys
 pub mod Roots
 pub mod Given
 pub mod Ways
@@ -10,6 +11,8 @@ pub mod Noted
 pub mod Stacks
 pub mod Frames
 pub mod Turns
+pub mod Turned
 pub mod Measure
 pub mod Grown
 pub mod Runs
+pub mod Starts

@@ -2,7 +2,7 @@
 use mathlib.Core.Path.{_≡_, refl, sym, ap, ap₂, _∙_}
 use mathlib.Core.Bool.{Bool, true, false}
 use mathlib.Core.List.{List, [], _∷_, map}
-use Prim.Native.Nat.{ℕ, zero, suc, _+_, _*_, _≤_, _<_}
+use Prim.Native.Nat.{ℕ, zero, suc, _+_, _*_}
 use native.Mathlib.Omega.{arith}
 use native.Mathlib.Decide.{decLt, ℕ-discrete}
 use borrow.Author.Tests.{eq-eqb, ne-eqb}
@@ -15,13 +15,13 @@ use Rattle.definition.specs.Verdict.{Bound}
 use Rattle.definition.specs.Store.{variableHead}
 use Rattle.definition.specs.Graph.{Vertex, Graph, applied, vertex, root, isVar}
 use Rattle.theory.specs.Walks.Walk.{visit, walk, visitEffort, effort, walk-image}
-use Rattle.theory.specs.Walks.Machine.{Frame, frameLeft, left, frameTurns, turnsLeft}
+use Rattle.theory.specs.Walks.Machine.{Frame, frameLeft, frameTurns, turnsLeft}
 use Rattle.theory.specs.Walks.Levels.{Inner, argRoots, roots-variable, roots-applied}
 use Rattle.theory.specs.Walks.Resolving.{Resolving, isRead, readRoot, read-made, read-others}
 use Rattle.store.specs.declared.nodes.Store.{Store}
 use Rattle.lift.specs.Lifts.{framesIn}
 use Rattle.graph.specs.declared.graph.Graph.{Graph as Counts}
-use Rattle.graph.specs.Cells.{graphIn, length-graphIn, rowsEnd, Shows}
+use Rattle.graph.specs.Cells.{graphIn, rowsEnd, Shows}
 use Rattle.graph.specs.Links.{graph-past}
 use Rattle.resolve.specs.Words.{marksIn, Says}
 use Rattle.resolve.specs.Asked.{graph-long}
@@ -76,6 +76,16 @@ mark x m y = elim (eqb x y) [ true ↦ true | false ↦ m y ]
 abbrev pub marked : (ℕ → Bool) → ℕ → Bool
 marked m x = m x
 
+-- it is
+mark-own : (x : ℕ) (m : ℕ → Bool) (y : ℕ) → x ≡ y → mark x m y ≡ true
+unfolding mark
+mark-own x m y e = rw (eq-eqb x y e, mark)
+
+-- no other is
+mark-other : (x : ℕ) (m : ℕ → Bool) (y : ℕ) → (x ≡ y → ⊥) → mark x m y ≡ m y
+unfolding mark
+mark-other x m y d = rw (ne-eqb x y d, mark)
+
 -- a root that is read back is marked
 read-marks : (P : Pack) (h : Graph) (vs : List Bound) (everyone : Bool) (x : ℕ) (s : Resolving) → isRead (readRoot P h vs everyone x s) ≡ mark x (isRead s)
 unfolding mark
@@ -83,15 +93,9 @@ read-marks P h vs everyone x s = λ i y. at y i
   where
     at : (y : ℕ) → isRead (readRoot P h vs everyone x s) y ≡ mark x (isRead s) y
     at y = elim (ℕ-discrete x y) [
-      | yes e ↦ ap (isRead (readRoot P h vs everyone x s)) (sym e) ∙ read-made P h vs everyone x s ∙ sym (marks-own y e)
-      | no d ↦ read-others P h vs everyone x y s d ∙ sym (marks-other y d)
+      | yes e ↦ ap (isRead (readRoot P h vs everyone x s)) (sym e) ∙ read-made P h vs everyone x s ∙ sym (mark-own x (isRead s) y e)
+      | no d ↦ read-others P h vs everyone x y s d ∙ sym (mark-other x (isRead s) y d)
     ]
-      where
-        marks-own : (y : ℕ) → x ≡ y → mark x (isRead s) y ≡ true
-        marks-own y e = rw (eq-eqb x y e, mark)
-
-        marks-other : (y : ℕ) → (x ≡ y → ⊥) → mark x (isRead s) y ≡ isRead s y
-        marks-other y d = rw (ne-eqb x y d, mark)
 
 -- ---- a graph like another has the same roots to be read back ahead of a node
 module _ (cells table : List ℕ) (g : Counts) (h : Graph) (S : Shows cells table g h) (inner : Inner h) where

@@ -1,26 +1,25 @@
 -- A root that is read back gets its pattern's word: then the words say the state with the root read back.
-use mathlib.Core.Path.{_≡_, refl, sym, ap, ap₂, _∙_, subst}
+use mathlib.Core.Path.{_≡_, refl, sym, ap, ap₂, _∙_}
 use mathlib.Core.Bool.{Bool, true, false, _||_}
 use mathlib.Core.List.{List, [], _∷_, _++_}
 use mathlib.Core.Option.{none, some}
-use Prim.Native.Nat.{ℕ, zero, suc, _+_, _*_, _-_, _≤_, _<_}
+use Prim.Native.Nat.{ℕ, zero, suc, _+_, _-_, _≤_, _<_}
 use native.Mathlib.Omega.{arith}
 use native.Mathlib.Decide.{ℕ-discrete}
 use native.Mathlib.Numerals.{add-one}
 use borrow.Author.Tests.{ne-eqb}
 use lib.Dec.{eqb}
-use lib.ListN.{length, getD, set, length-set}
+use lib.ListN.{length, getD, set}
 use lib.Seq.{getD-set-same, getD-set-other}
 use Rattle.definition.specs.Test.{is, see, never}
 use Rattle.definition.specs.Pack.{Pack}
 use Rattle.definition.specs.Verdict.{Bound, valueOf}
 use Rattle.definition.specs.Graph.{Graph, vertex, isVar}
-use Rattle.definition.specs.Analysis.{ResolvedOne, numberOf, resolveVariable, resolveAt}
+use Rattle.definition.specs.Analysis.{numberOf, resolveVariable, resolveAt}
 use Rattle.theory.specs.Copies.Copying.{valueOf-new, valueOf-old}
 use Rattle.theory.specs.Walks.Resolving.{Resolving, isRead, readRoot, read-made, read-others, right-root}
 use Rattle.base.specs.Part.{part, part-set, part-set-before, part-same, length-part}
 use Rattle.base.specs.Probe.{taken}
-use Rattle.store.specs.Stored.{nodes, written}
 use Rattle.store.specs.declared.nodes.Store.{Store}
 use Rattle.base.specs.declared.id.Pattern.{Pattern}
 use Rattle.catalog.specs.declared.whole.Catalog.{Catalog}
@@ -30,7 +29,7 @@ use Rattle.graph.specs.declared.graph.Graph.{Graph as Counts}
 use Rattle.graph.specs.Cells.{rowsEnd}
 use Rattle.resolve.specs.declared.words.Table.{Table}
 use Rattle.resolve.specs.declared.root.Resolved.the-variants as read
-use Rattle.resolve.specs.Words.{valuesAt, patternsAt, numbersAt, tableEnd, tableIn, marksIn, wordOf, Lies, Holding, Framed}
+use Rattle.resolve.specs.Words.{valuesAt, patternsAt, numbersAt, tableIn, marksIn, wordOf, Holding}
 use Rattle.resolve.specs.Kept.{number-fits}
 use Rattle.resolve.specs.Moved.{table-set, table-long, framed-then}
 use Rattle.resolve.specs.Roots.{Open, Any, Opening, readsAs, Given, Gives, Notes}

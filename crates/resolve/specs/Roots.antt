@@ -3,7 +3,7 @@ use mathlib.Core.Path.{_≡_}
 use mathlib.Core.Bool.{Bool, true, false, _||_}
 use mathlib.Core.List.{List}
 use mathlib.Core.Option.{none}
-use Prim.Native.Nat.{ℕ, suc, _+_, _≤_, _<_}
+use Prim.Native.Nat.{ℕ, suc, _≤_, _<_}
 use lib.ListN.{length, getD}
 use Rattle.definition.specs.Pack.{Pack}
 use Rattle.definition.specs.Verdict.{Bound}
@@ -85,6 +85,43 @@ Gives bytes work words work′ words′ cells c l t st g n everyone x Q (Read p 
 Gives bytes work words work′ words′ cells c l t st g n everyone x Q Short =
     Framed cells work work′ l t
     × ((P : Pack) (h : Graph) (vs : List Bound) (s : Resolving) → Holding bytes work words cells c l t st g n everyone P h vs s → Open h s x → Q h → length words < length (patternWords (readsAs P h vs everyone x s .state .store)))
+
+-- ---- what is asked and answered where the code needs no more than this, whatever stands around it
+-- a variable to be numbered
+pub record Naming (work words cells : List ℕ) (l : Lifted) (t : Table) (st : Store) (n x : ℕ) : Type 0 where
+  pub bytes : List ℕ
+  pub catalog : Catalog
+  pub counts : Counts
+  pub everyone : Bool
+  pub opening : Opening bytes work words cells catalog l t st counts n everyone x (Named everyone x)
+
+-- it is
+abbrev pub Names : List ℕ → List ℕ → List ℕ → List ℕ → List ℕ → Lifted → Table → Store → ℕ → ℕ → Resolved → Type 0
+Names work words work′ words′ cells l t st n x r = (bytes : List ℕ) (c : Catalog) (g : Counts) (everyone : Bool) → Opening bytes work words cells c l t st g n everyone x (Named everyone x)
+    → Gives bytes work words work′ words′ cells c l t st g n everyone x (Named everyone x) r
+
+-- a variable to be fixed
+pub record Valuing (bytes work words cells : List ℕ) (c : Catalog) (l : Lifted) (t : Table) (st : Store) (n x : ℕ) : Type 0 where
+  pub counts : Counts
+  pub everyone : Bool
+  pub opening : Opening bytes work words cells c l t st counts n everyone x (Fixed everyone x)
+
+-- it is
+abbrev pub Values : List ℕ → List ℕ → List ℕ → List ℕ → List ℕ → List ℕ → Catalog → Lifted → Table → Store → ℕ → ℕ → Resolved → Type 0
+Values bytes work words work′ words′ cells c l t st n x r = (g : Counts) (everyone : Bool) → Opening bytes work words cells c l t st g n everyone x (Fixed everyone x)
+    → Gives bytes work words work′ words′ cells c l t st g n everyone x (Fixed everyone x) r
+
+-- an application
+pub record Applying (work words cells : List ℕ) (l : Lifted) (t : Table) (st : Store) (g : Counts) (n x : ℕ) : Type 0 where
+  pub bytes : List ℕ
+  pub catalog : Catalog
+  pub everyone : Bool
+  pub opening : Opening bytes work words cells catalog l t st g n everyone x (Applied x)
+
+-- it is read back
+abbrev pub Applies : List ℕ → List ℕ → List ℕ → List ℕ → List ℕ → Lifted → Table → Store → Counts → ℕ → ℕ → Resolved → Type 0
+Applies work words work′ words′ cells l t st g n x r = (bytes : List ℕ) (c : Catalog) (everyone : Bool) → Opening bytes work words cells c l t st g n everyone x (Applied x)
+    → Gives bytes work words work′ words′ cells c l t st g n everyone x (Applied x) r
 
 -- what `read_root` answers: the state with the root read back, the stack as it was; or short
 abbrev pub Notes : List ℕ → List ℕ → List ℕ → List ℕ → List ℕ → List ℕ → Catalog → Lifted → Table → Store → Counts → ℕ → Bool → ℕ → Resolved → Type 0

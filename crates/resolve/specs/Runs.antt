@@ -1,5 +1,5 @@
 -- The loop: what is left of the stack gives the whole walk, and so what `resolve` of the node gives.
-use mathlib.Core.Path.{_≡_, refl, sym, ap, ap₂, _∙_, subst}
+use mathlib.Core.Path.{_≡_, sym, ap, _∙_, subst}
 use mathlib.Core.Bool.{Bool, true}
 use mathlib.Core.List.{List, [], _∷_}
 use Prim.Native.Nat.{ℕ, suc, _+_, _*_, _-_, _≤_, _<_}
@@ -8,19 +8,16 @@ use lib.ListN.{length, getD}
 use Rattle.definition.specs.Pack.{Node, Pack}
 use Rattle.definition.specs.Verdict.{Bound}
 use Rattle.definition.specs.Store.{patternWords}
-use Rattle.definition.specs.Graph.{Graph, root}
-use Rattle.definition.specs.Analysis.{Resolved, copied, resolve}
+use Rattle.definition.specs.Graph.{Graph}
+use Rattle.definition.specs.Analysis.{copied}
 use Rattle.theory.specs.Patterns.Interned.{Grows}
-use Rattle.theory.specs.Unification.Forest.{root-inside}
-use Rattle.theory.specs.Walks.Walk.{walk, under-more}
-use Rattle.theory.specs.Walks.Machine.{Frame, frame, Walking, left, left-new, left-none, turnsLeft, Stacked, turn-kept, Kept}
-use Rattle.theory.specs.Walks.WalkReady.{Sound, sound-new}
-use Rattle.theory.specs.Walks.Levels.{argRoots, rankOf, rank-most, roots-fall, roots-inside}
-use Rattle.theory.specs.Walks.Reading.{resolvedAs}
-use Rattle.theory.specs.Walks.Resolving.{Resolving, isRead, readRoot, read-made, read-others, Right, walked, walk-resolve, read-going}
+use Rattle.theory.specs.Walks.Walk.{walk}
+use Rattle.theory.specs.Walks.Machine.{Frame, frame, Walking, left, left-none, turnsLeft, turn-kept, Kept}
+use Rattle.theory.specs.Walks.WalkReady.{Sound}
+use Rattle.theory.specs.Walks.Levels.{argRoots, rankOf, roots-fall, roots-inside}
+use Rattle.theory.specs.Walks.Resolving.{Resolving, isRead, readRoot, read-made, read-others, walked, read-going}
 use Rattle.base.specs.Part.{part-at}
 use Rattle.store.specs.Stored.{nodes, written}
-use Rattle.store.specs.Table.{begins-written}
 use Rattle.store.specs.declared.nodes.Store.{Store}
 use Rattle.base.specs.declared.id.Pattern.{Pattern}
 use Rattle.catalog.specs.declared.whole.Catalog.{Catalog}
@@ -28,16 +25,14 @@ use Rattle.lift.specs.Lifts.{framesIn}
 use Rattle.lift.specs.Runs.{written-again, words-grow}
 use Rattle.lift.specs.declared.walk.Lifted.{Lifted}
 use Rattle.graph.specs.declared.graph.Graph.{Graph as Counts}
-use Rattle.graph.specs.Cells.{rowsEnd, Shows}
+use Rattle.graph.specs.Cells.{rowsEnd}
 use Rattle.resolve.specs.declared.words.Table.{Table}
-use Rattle.resolve.specs.declared.root.Resolved.{Resolved as Answer}
-use Rattle.resolve.specs.declared.root.Resolved.the-variants as read
 use Rattle.resolve.specs.declared.walk.Turn.the-variants as turns
-use Rattle.resolve.specs.Words.{patternsAt, tableEnd, tableIn, marksIn, Holding, Ready, Framed}
-use Rattle.resolve.specs.Moved.{nodes-most, framed-none, framed-then, framed-moves, holding-moves}
-use Rattle.resolve.specs.Asked.{Asking, patternOf, graph-long}
+use Rattle.resolve.specs.Words.{patternsAt, tableIn, Holding, Ready, Framed}
+use Rattle.resolve.specs.Moved.{nodes-most, framed-then}
+use Rattle.resolve.specs.Asked.{graph-long}
 use Rattle.resolve.specs.Given.{copied-word, read-word}
-use Rattle.resolve.specs.Stacks.{Sane, framesOf, Going, Running, Turning, turnOf, Advances, Begins, Answers}
+use Rattle.resolve.specs.Stacks.{Sane, framesOf, Going, Running, Turning, turnOf, Advances}
 use Rattle.resolve.specs.Measure.{turnsIn, turns-of}
 use Rattle.resolve.specs.Grown.{left-grows, turn-grows}
 
@@ -233,82 +228,3 @@ turns-at cells table g k top h u = let e : suc (top - 1) ≡ top = omega arith i
 pub walks-none : (bytes work₀ words₀ work words cells : List ℕ) (c : Catalog) (l : Lifted) (t : Table) (st₀ st : Store) (g : Counts) (n₀ n : ℕ) (everyone : Bool) (r top : ℕ) → top ≤ 0
     → Walks bytes work₀ words₀ work words cells c l t st₀ st g n₀ n everyone r top → Walks bytes work₀ words₀ work words cells c l t st₀ st g n₀ n everyone r 0
 walks-none bytes work₀ words₀ work words cells c l t st₀ st g n₀ n everyone r top h W = let e : top ≡ 0 = omega arith in subst (λ (k : ℕ). Walks bytes work₀ words₀ work words cells c l t st₀ st g n₀ n everyone r k) e W
-
--- ---- the first frame
-module _ (bytes work words cells : List ℕ) (c : Catalog) (l : Lifted) (t : Table) (st : Store) (g : Counts) (n : ℕ) (everyone : Bool) (x : ℕ) (K : Ready bytes work words cells c l t st g n everyone) (h₀ : x < g .nodes) where
-  -- the node may be asked for
-  pub first-asking : Asking cells work t g x
-  first-asking =
-      let L = K .holding .lies in
-      record { graph = K .graph; graphed = record { room = L .room; fits = L .fits; shows = L .stands .shows; inner = L .stands .inner; few = L .stands .few }; node = h₀ }
-
-  module _ (first : List ℕ) (r : ℕ) (B : Begins cells work first t g x r) where
-    -- all is as it was
-    held : (P : Pack) (h : Graph) (vs : List Bound) (s : Resolving) → Holding bytes work words cells c l t st g n everyone P h vs s → Holding bytes first words cells c l t st g n everyone P h vs s
-    held = holding-moves bytes work words cells c l t st g first (B .moves) n everyone
-
-    -- the loop may start
-    pub first-ready : Ready bytes first words cells c l t st g n everyone
-    first-ready = record { pack = K .pack; graph = K .graph; values = K .values; state = K .state; holding = held (K .pack) (K .graph) (K .values) (K .state) (K .holding) }
-
-    -- its rank is that of a root
-    first-rank : (P : Pack) (h : Graph) (vs : List Bound) (s : Resolving) → Holding bytes work words cells c l t st g n everyone P h vs s → rankOf h r < length h
-    first-rank P h vs s H =
-        let S = H .lies .stands in
-        subst (λ (y : ℕ). rankOf h y < length h) (sym (B .is h (S .shows))) (rank-most h (S .shows .like .forest) (S .inner) (S .ends) x (omega (arith, graph-long cells (tableIn t work) g h (S .shows))))
-
-    -- so too for what is held
-    pub first-low : rankOf (first-ready .graph) r < length (first-ready .graph)
-    unfolding first-ready
-    first-low = first-rank (K .pack) (K .graph) (K .values) (K .state) (K .holding)
-
-    -- what is left of it is the walk
-    pub first-walks : Walks bytes first words first words cells c l t st st g n n everyone r 1
-    first-walks = record {
-      framed = framed-none cells first l t;
-      are = begins-written (nodes words st) words (K .holding .lies .lifts .laid .index .placed .begins);
-      each = λ P h vs s₀ H₀ b.
-          let C = saneOf bytes first words cells c l t st g n everyone P h vs s₀ H₀ in
-          let m = graph-long cells (tableIn t first) g h (H₀ .lies .stands .shows) in
-          record {
-            state = s₀;
-            running = record {
-              holding = H₀;
-              going = subst (λ (fs : List Frame). Going P h C vs everyone fs s₀) (sym (B .frames)) (record {
-                stacked = (omega arith, omega (arith, b));
-                sound = sound-new (argRoots h) isRead (readRoot P h vs everyone) (read-made P h vs everyone) (read-others P h vs everyone) (rankOf h) (roots-fall h (C .forest) (C .inner) (C .ends)) (length h) (roots-inside h (C .forest) (C .inner) (C .ends)) r s₀ (omega (arith, B .node));
-              });
-            };
-            whole = ap (λ (fs : List Frame). left (argRoots h) isRead (readRoot P h vs everyone) (length h) fs s₀) (B .frames) ∙ left-new (argRoots h) isRead (readRoot P h vs everyone) (length h) r [] s₀
-                ∙ left-none (argRoots h) isRead (readRoot P h vs everyone) (length h) (walk (argRoots h) isRead (readRoot P h vs everyone) (length h) (r ∷ []) s₀);
-          };
-    }
-
-    -- only rows and the stack were written for it
-    first-framed : Framed cells work first l t
-    first-framed = framed-moves bytes work words cells c l t st g first (B .moves) (K .pack) (K .graph) (K .values) (K .holding .lies)
-
-    -- what the walk gives is the definition's
-    first-is : (P : Pack) (h : Graph) (vs : List Bound) (s : Resolving) → Holding bytes work words cells c l t st g n everyone P h vs s
-        → let u = walk (argRoots h) isRead (readRoot P h vs everyone) (length h) (r ∷ []) s in resolve (suc (length h)) P h vs everyone (x ∷ []) (s .state) ≡ resolvedAs (copied (u .memo) r ∷ []) (u .state)
-    first-is P h vs s H =
-        let S = H .lies .stands in
-        walk-resolve P h vs everyone (S .shows .like .forest) (S .inner) (S .ends) x s (omega (arith, graph-long cells (tableIn t work) g h (S .shows))) (H .right) .1
-        ∙ ap (λ (y : ℕ). let u = walk (argRoots h) isRead (readRoot P h vs everyone) (length h) (y ∷ []) s in resolvedAs (copied (u .memo) y ∷ []) (u .state)) (sym (B .is h (S .shows)))
-
-    -- there is no room
-    pub first-short : (work′ words′ : List ℕ) → Shorts bytes first words work′ cells c l t st g n everyone r → Answers bytes work words work′ words′ cells c l t st g n everyone x read.Short
-    first-short work′ words′ A = (
-      framed-then cells work first work′ l t first-framed (A .0),
-      λ P h vs s H. subst (λ (a : List Node). length words < length (patternWords a)) (sym (ap (λ (o : Resolved). o .state .store) (first-is P h vs s H))) (A .1 P h vs s (held P h vs s H) (first-rank P h vs s H)),
-    )
-
-    -- the pattern was read
-    pub first-done : (work′ words′ : List ℕ) (st′ : Store) (n′ : ℕ) (p : Pattern) → Reads bytes first words work′ words′ cells c l t st st′ g n n′ everyone r (p .0) → Answers bytes work words work′ words′ cells c l t st g n everyone x (read.Read p st′ n′)
-    first-done work′ words′ st′ n′ p A = (
-      framed-then cells work first work′ l t first-framed (A .0),
-      A .1,
-      λ P h vs s H.
-          let y = A .2 P h vs s (held P h vs s H) (first-rank P h vs s H) in
-          (y .0, y .1, first-is P h vs s H ∙ ap (λ (u : Resolving). resolvedAs (copied (u .memo) r ∷ []) (u .state)) (sym (y .2)) ∙ ap (λ (a : ℕ). resolvedAs (a ∷ []) (y .0 .state)) (y .3)),
-    )

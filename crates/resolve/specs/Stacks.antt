@@ -27,8 +27,8 @@ use Rattle.resolve.specs.declared.root.Resolved.{Resolved}
 use Rattle.resolve.specs.declared.root.Resolved.the-variants as read
 use Rattle.resolve.specs.declared.walk.Turn.{Turn}
 use Rattle.resolve.specs.declared.walk.Turn.the-variants as turns
-use Rattle.resolve.specs.Words.{valuesAt, patternsAt, tableIn, Fixes, Lies, Holding, Ready, Framed, Moves}
-use Rattle.resolve.specs.Asked.{Asking, Arguing}
+use Rattle.resolve.specs.Words.{patternsAt, tableIn, Fixes, Lies, Holding, Framed, Moves}
+use Rattle.resolve.specs.Asked.{Arguing}
 
 -- a forest whose nodes have nodes as arguments, without circles
 pub record Sane (h : Graph) : Type 0 where

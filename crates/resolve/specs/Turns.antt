@@ -1,12 +1,11 @@
 -- One turn on the stack: what each way of it leaves.
-use mathlib.Core.Path.{_≡_, refl, sym, ap, ap₂, _∙_, subst}
+use mathlib.Core.Path.{_≡_, refl, sym, ap, _∙_, subst}
 use mathlib.Core.Bool.{Bool, true, false}
-use mathlib.Core.List.{List, [], _∷_, map}
+use mathlib.Core.List.{List, [], _∷_}
 use mathlib.Core.Option.{Option, none, some}
-use Prim.Native.Nat.{ℕ, zero, suc, _+_, _*_, _-_, _≤_, _<_}
+use Prim.Native.Nat.{ℕ, suc, _+_, _*_, _-_, _≤_, _<_}
 use native.Mathlib.Omega.{arith}
-use native.Mathlib.Numerals.{add-one}
-use borrow.Author.Tests.{lt-ltb, le-ltb, eq-eqb}
+use borrow.Author.Tests.{lt-ltb, le-ltb}
 use lib.Dec.{eqb, ltb}
 use lib.ListN.{length, length-map, getD}
 use Rattle.definition.specs.Test.{is, see, never, tests, _and_}
@@ -20,26 +19,20 @@ use Rattle.theory.specs.Walks.Memo.{has}
 use Rattle.theory.specs.Walks.Levels.{argRoots, roots-variable, roots-applied, rankOf, roots-fall}
 use Rattle.theory.specs.Walks.Resolving.{Resolving, isRead, readRoot}
 use Rattle.base.specs.Part.{part-at}
-use Rattle.store.specs.Stored.{nodes, written}
-use Rattle.store.specs.Table.{begins-written}
 use Rattle.store.specs.declared.nodes.Store.{Store}
-use Rattle.base.specs.declared.id.Pattern.{Pattern}
 use Rattle.catalog.specs.declared.whole.Catalog.{Catalog}
 use Rattle.lift.specs.Lifts.{framesIn}
-use Rattle.lift.specs.Memo.{frames-same}
 use Rattle.lift.specs.Turns.{length-frames}
 use Rattle.lift.specs.declared.walk.Lifted.{Lifted}
 use Rattle.graph.specs.declared.graph.Graph.{Graph as Counts}
-use Rattle.graph.specs.Cells.{rowsEnd, Shows}
+use Rattle.graph.specs.Cells.{rowsEnd}
 use Rattle.resolve.specs.declared.words.Table.{Table}
-use Rattle.resolve.specs.declared.root.Resolved.the-variants as read
-use Rattle.resolve.specs.declared.walk.Turn.the-variants as turns
-use Rattle.resolve.specs.Words.{valuesAt, patternsAt, tableEnd, tableIn, marksIn, wordOf, Says, Holding, Framed, Moves}
-use Rattle.resolve.specs.Moved.{nodes-most, framed-none, framed-moves, holding-moves}
-use Rattle.resolve.specs.Asked.{Asking, CountOf, graph-long}
-use Rattle.resolve.specs.Roots.{Open, Any, Opening, Notes}
+use Rattle.resolve.specs.Words.{patternsAt, tableIn, marksIn, wordOf, Says, Holding}
+use Rattle.resolve.specs.Moved.{nodes-most, holding-moves}
+use Rattle.resolve.specs.Asked.{CountOf, graph-long}
+use Rattle.resolve.specs.Roots.{Open}
 use Rattle.resolve.specs.Ways.{map-at}
-use Rattle.resolve.specs.Stacks.{Sane, framesOf, Going, Running, Turning, turnOf, Advances, Entering, Enters}
+use Rattle.resolve.specs.Stacks.{Sane, framesOf, Running, turnOf, Enters}
 
 -- whether a root was read back, by its word
 pub read-mark : (cells table words : List ℕ) (g : Counts) (st : Store) (n : ℕ) (s : Resolving) → Says cells table words g st n s → (x : ℕ) → isRead s x ≡ ltb 0 (getD (marksIn cells table g) x 0)
@@ -94,14 +87,14 @@ module _ (bytes work words cells : List ℕ) (c : Catalog) (l : Lifted) (t : Tab
         omega (arith, length-frames table (rowsEnd cells) (suc top))
 
     -- nor than cells
-    room : (suc top ≤ length cells) × (g .nodes ≤ length cells) × (length h ≡ g .nodes)
+    pub room : (suc top ≤ length cells) × (g .nodes ≤ length cells) × (length h ≡ g .nodes)
     room =
         let m = nodes-most cells table g h vs (R .holding .lies .stands) in
         let k = graph-long cells table g h (R .holding .lies .stands .shows) in
         (omega (arith, few-frames), m, k)
 
     -- what is known of the frame
-    goes : (x < length h) × (0 < taken → isRead s x ≡ false) × ((j : ℕ) → j < taken → isRead s (getD (argRoots h x) j 0) ≡ true)
+    pub goes : (x < length h) × (0 < taken → isRead s x ≡ false) × ((j : ℕ) → j < taken → isRead s (getD (argRoots h x) j 0) ≡ true)
     unfolding framesIn
     goes = let f = R .going .sound .0 in (f .given, f .unknown, f .ready)
 
@@ -122,7 +115,7 @@ module _ (bytes work words cells : List ℕ) (c : Catalog) (l : Lifted) (t : Tab
       drops = ap (λ (y : Bool). eqb taken 0 and y) seen ∙ sym e
 
       -- it is
-      drops-on : b ≡ true → turnOf P h vs everyone (framesOf cells t work (suc top)) s ≡ walking fs s
+      pub drops-on : b ≡ true → turnOf P h vs everyone (framesOf cells t work (suc top)) s ≡ walking fs s
       unfolding turnOf turn framesIn
       drops-on q = let d : eqb taken 0 and isRead s x ≡ true = drops ∙ q in rw (d, turn)
 
@@ -178,7 +171,7 @@ module _ (bytes work words cells : List ℕ) (c : Catalog) (l : Lifted) (t : Tab
           taken-few = omega (arith, some-args, R .holding .lies .stands .few x (goes .0))
 
           -- it has one
-          turned-in : (work′ : List ℕ) → Enters cells work work′ t g top x taken
+          pub turned-in : (work′ : List ℕ) → Enters cells work work′ t g top x taken
               → Holding bytes work′ words cells c l t st g n everyone P h vs (turnOf P h vs everyone (framesOf cells t work (suc top)) s .state) × (framesOf cells t work′ (top + 2) ≡ turnOf P h vs everyone (framesOf cells t work (suc top)) s .stack)
           turned-in work′ E =
               let two : top + 2 ≡ suc (suc top) = omega arith in
@@ -190,158 +183,13 @@ module _ (bytes work words cells : List ℕ) (c : Catalog) (l : Lifted) (t : Tab
         -- none is left
         module _ (m : k ≤ taken) where
           -- the root may be read back
-          opens : Open h s x
+          pub opens : Open h s x
           opens = record { node = goes .0; root = is-root; unread = unread; ripe = known-each s (argRoots h x) (λ j y. goes .2 j (omega (arith, many))) }
 
           -- the machine does
-          finishes : turnOf P h vs everyone (framesOf cells t work (suc top)) s ≡ walking fs (readRoot P h vs everyone x s)
+          pub finishes : turnOf P h vs everyone (framesOf cells t work (suc top)) s ≡ walking fs (readRoot P h vs everyone x s)
           unfolding turnOf turn framesIn
           finishes =
               let d : eqb taken 0 and isRead s x ≡ false = drops ∙ q in
               let z = le-ltb taken (length (argRoots h x)) (omega (arith, many)) in
               rw (d, z, turn)
-
-  -- ---- for the pack, graph, values and state that there are
-  module _ (T : Turning bytes work words cells c l t st g n everyone top) where
-    -- the frame's words stand in the table
-    pub turning-there : (t .at + (rowsEnd cells + 2 * top + 1) < t .end) × (t .end ≤ length work)
-    turning-there =
-        let L = T .running .holding .lies in
-        (omega (arith, room (T .pack) (T .graph) (T .sane) (T .values) (T .state) (T .running) .0, L .room), L .fits)
-
-    -- the cells are few
-    pub turning-small : length cells < 4294967295
-    turning-small = T .running .holding .lies .stands .shows .laid .small
-
-    -- there is room for the frame
-    pub turning-top : suc top ≤ length cells
-    turning-top = room (T .pack) (T .graph) (T .sane) (T .values) (T .state) (T .running) .0
-
-    -- its root is a node
-    pub turning-node : (x < g .nodes) × (x < length cells)
-    turning-node =
-        let r = room (T .pack) (T .graph) (T .sane) (T .values) (T .state) (T .running) in
-        let y = goes (T .pack) (T .graph) (T .sane) (T .values) (T .state) (T .running) .0 in
-        (omega (arith, r .2), omega (arith, r .1, r .2))
-
-    -- its word stands in the table
-    pub turning-word : t .at + (patternsAt cells + x) < t .end
-    turning-word = omega (arith, turning-node .1, T .running .holding .lies .room)
-
-    -- it may be asked for
-    abbrev pub turning-asking : Asking cells work t g x
-    turning-asking =
-        let L = T .running .holding .lies in
-        record { graph = T .graph; graphed = record { room = L .room; fits = L .fits; shows = L .stands .shows; inner = L .stands .inner; few = L .stands .few }; node = turning-node .0 }
-
-    -- the words are those of the store
-    still : words ≡ written (nodes words st) words
-    still = begins-written (nodes words st) words (T .running .holding .lies .lifts .laid .index .placed .begins)
-
-    module _ (b : Bool) (e : b ≡ (eqb taken 0 and ltb 0 (getD table (patternsAt cells + x) 0))) where
-      -- the frame is dropped
-      pub turn-passed : b ≡ true → Advances bytes work words work words cells c l t st g n everyone top (turns.On top st n)
-      turn-passed q = (
-        framed-none cells work l t,
-        still,
-        λ P h C vs s R.
-            let w = drops-on P h C vs s R b e q in
-            (subst (λ (u : Resolving). Holding bytes work words cells c l t st g n everyone P h vs u) (sym (ap (λ (v : Walking Resolving). v .state) w)) (R .holding), sym (ap (λ (v : Walking Resolving). v .stack) w)),
-      )
-
-      -- it is not
-      module _ (q : b ≡ false) (k : ℕ) (N : CountOf cells work t g x k) where
-        -- an argument's root may get a frame
-        pub turn-entering : taken < k → Entering cells work t g top x taken
-        turn-entering m = record {
-          arguing = record { asking = turning-asking; some = some-args (T .pack) (T .graph) (T .sane) (T .values) (T .state) (T .running) b e q k N m };
-          is = refl;
-          room = next-room (T .pack) (T .graph) (T .sane) (T .values) (T .state) (T .running) b e q k N m;
-          small = taken-few (T .pack) (T .graph) (T .sane) (T .values) (T .state) (T .running) b e q k N m;
-        }
-
-        -- it has one
-        pub turn-entered : (m : taken < k) (work′ : List ℕ) → Enters cells work work′ t g top x taken → Advances bytes work words work′ words cells c l t st g n everyone top (turns.On (top + 2) st n)
-        turn-entered m work′ E = (
-          framed-moves bytes work words cells c l t st g work′ (E .moves) (T .pack) (T .graph) (T .values) (T .running .holding .lies),
-          still,
-          λ P h C vs s R. turned-in P h C vs s R b e q k N m work′ E,
-        )
-
-        -- none is left
-        module _ (m : k ≤ taken) where
-          -- the root may be read back
-          pub turn-opening : Opening bytes work words cells c l t st g n everyone x Any
-          turn-opening = record { pack = T .pack; graph = T .graph; values = T .values; state = T .state; holding = T .running .holding; opened = opens (T .pack) (T .graph) (T .sane) (T .values) (T .state) (T .running) b e q k N m; asked = tt }
-
-          module _ (work′ words′ : List ℕ) where
-            -- there is no room for it
-            pub turn-short : Notes bytes work words work′ words′ cells c l t st g n everyone x read.Short → Advances bytes work words work′ words′ cells c l t st g n everyone top turns.Short
-            turn-short S = (S .0, λ P h C vs s R. rw (finishes P h C vs s R b e q k N m) (S .1 P h vs s (R .holding) (opens P h C vs s R b e q k N m)))
-
-            -- it was
-            pub turn-finished : (p : Pattern) (st′ : Store) (n′ : ℕ) → Notes bytes work words work′ words′ cells c l t st g n everyone x (read.Read p st′ n′) → Advances bytes work words work′ words′ cells c l t st g n everyone top (turns.On top st′ n′)
-            turn-finished p st′ n′ S = (
-              S .0,
-              S .1,
-              λ P h C vs s R.
-                  let y = S .2 P h vs s (R .holding) (opens P h C vs s R b e q k N m) in
-                  let w = finishes P h C vs s R b e q k N m in (
-                    subst (λ (u : Resolving). Holding bytes work′ words′ cells c l t st′ g n′ everyone P h vs u) (sym (ap (λ (v : Walking Resolving). v .state) w)) (y .0),
-                    frames-same table (tableIn t work′) (rowsEnd cells) top (λ i a z. y .1 i a (omega (arith, turning-top))) ∙ sym (ap (λ (v : Walking Resolving). v .stack) w),
-                  ),
-            )
-
-    -- ---- the frame's root and count as they were read
-    module _ (y u : ℕ) (ey : y ≡ x) (eu : u ≡ taken) where
-      -- the root is a node
-      pub at-node : (y < g .nodes) × (y < length cells)
-      at-node = (omega (arith, turning-node .0), omega (arith, turning-node .1))
-
-      -- its word stands in the table
-      pub at-word : t .at + (patternsAt cells + y) < t .end
-      at-word = omega (arith, turning-word)
-
-      -- it may be asked for
-      pub at-asking : Asking cells work t g y
-      at-asking = subst (λ (z : ℕ). Asking cells work t g z) (sym ey) turning-asking
-
-      module _ (b : Bool) (e : b ≡ (eqb u 0 and ltb 0 (getD table (patternsAt cells + y) 0))) where
-        -- whether the frame is dropped
-        told : b ≡ (eqb taken 0 and ltb 0 (getD table (patternsAt cells + x) 0))
-        told = e ∙ ap₂ (λ (z v : ℕ). eqb v 0 and ltb 0 (getD table (patternsAt cells + z) 0)) ey eu
-
-        -- it is
-        pub at-passed : b ≡ true → Advances bytes work words work words cells c l t st g n everyone top (turns.On top st n)
-        at-passed q = turn-passed b told q
-
-        module _ (q : b ≡ false) (k : ℕ) (N : CountOf cells work t g y k) where
-          -- of that root
-          counted : CountOf cells work t g x k
-          counted = subst (λ (z : ℕ). CountOf cells work t g z k) ey N
-
-          -- an argument's root may get a frame
-          pub at-entering : u < k → Entering cells work t g top y u
-          at-entering m = subst (λ (z : ℕ). Entering cells work t g top z u) (sym ey) (subst (λ (v : ℕ). Entering cells work t g top x v) (sym eu) (turn-entering b told q k counted (omega (arith, eu))))
-
-          -- it has one
-          pub at-entered : u < k → (work′ : List ℕ) → Enters cells work work′ t g top y u → Advances bytes work words work′ words cells c l t st g n everyone top (turns.On (top + 2) st n)
-          at-entered m work′ E = turn-entered b told q k counted (omega (arith, eu)) work′ (subst (λ (z : ℕ). Enters cells work work′ t g top z taken) ey (subst (λ (v : ℕ). Enters cells work work′ t g top y v) eu E))
-
-          -- none is left
-          module _ (m : k ≤ u) where
-            -- few enough were taken
-            few : k ≤ taken
-            few = omega (arith, eu)
-
-            -- the root may be read back
-            pub at-opening : Opening bytes work words cells c l t st g n everyone y Any
-            at-opening = subst (λ (z : ℕ). Opening bytes work words cells c l t st g n everyone z Any) (sym ey) (turn-opening b told q k counted few)
-
-            -- there is no room for it
-            pub at-short : (work′ words′ : List ℕ) → Notes bytes work words work′ words′ cells c l t st g n everyone y read.Short → Advances bytes work words work′ words′ cells c l t st g n everyone top turns.Short
-            at-short work′ words′ S = turn-short b told q k counted few work′ words′ (subst (λ (z : ℕ). Notes bytes work words work′ words′ cells c l t st g n everyone z read.Short) ey S)
-
-            -- it was
-            pub at-finished : (work′ words′ : List ℕ) (p : Pattern) (st′ : Store) (n′ : ℕ) → Notes bytes work words work′ words′ cells c l t st g n everyone y (read.Read p st′ n′) → Advances bytes work words work′ words′ cells c l t st g n everyone top (turns.On top st′ n′)
-            at-finished work′ words′ p st′ n′ S = turn-finished b told q k counted few work′ words′ p st′ n′ (subst (λ (z : ℕ). Notes bytes work words work′ words′ cells c l t st g n everyone z (read.Read p st′ n′)) ey S)

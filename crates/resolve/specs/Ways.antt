@@ -1,6 +1,6 @@
 -- What each way of reading a root back answers: by a number, by a value, over arguments.
 use mathlib.Core.Path.{_≡_, refl, sym, ap, ap₂, _∙_, subst}
-use mathlib.Core.Bool.{Bool, true, false, _||_}
+use mathlib.Core.Bool.{Bool, true}
 use mathlib.Core.List.{List, [], _∷_, _++_, map}
 use Prim.Native.Nat.{ℕ, zero, suc, _+_, _*_, _-_, _≤_, _<_}
 use native.Mathlib.Omega.{arith}
@@ -10,34 +10,33 @@ use Rattle.definition.specs.Pack.{Node, Pack}
 use Rattle.definition.specs.Tree.{treeOf}
 use Rattle.definition.specs.Verdict.{Bound}
 use Rattle.definition.specs.Store.{variableHead, intern, patternWords}
-use Rattle.definition.specs.Graph.{Graph, vertex, root, isVar}
+use Rattle.definition.specs.Graph.{Graph, vertex, root}
 use Rattle.definition.specs.Analysis.{lift, ResolvedOne, copied}
 use Rattle.theory.specs.Patterns.Interned.{interned, lifted}
-use Rattle.theory.specs.Walks.Again.{stored}
-use Rattle.theory.specs.Walks.Levels.{argRoots, roots-applied}
+use Rattle.theory.specs.Walks.Levels.{roots-applied}
 use Rattle.theory.specs.Walks.Walk.{Known, under-at, below-under}
 use Rattle.theory.specs.Walks.Resolving.{Resolving, isRead}
 use Rattle.theory.specs.Unification.Forest.{root-inside}
 use Rattle.base.specs.Part.{part, part-at, part-set-behind, part-more}
 use Rattle.store.specs.Words.{nodeWith}
-use Rattle.store.specs.Stored.{nodes, written}
+use Rattle.store.specs.Stored.{nodes}
 use Rattle.store.specs.declared.nodes.Store.{Store}
 use Rattle.store.specs.declared.nodes.Interned.the-variants.{Id, Short}
 use Rattle.base.specs.declared.id.Pattern.{Pattern}
 use Rattle.catalog.specs.declared.whole.Catalog.{Catalog}
-use Rattle.lift.specs.Lifts.{Lifts, Apart, Answers}
+use Rattle.lift.specs.Lifts.{Apart, Answers}
 use Rattle.lift.specs.declared.walk.Lifted.{Lifted}
 use Rattle.graph.specs.declared.graph.Graph.{Graph as Counts}
-use Rattle.graph.specs.Cells.{rowsEnd, Shows}
-use Rattle.graph.specs.Joins.{HeadOf, head-variable, head-other}
+use Rattle.graph.specs.Cells.{Shows}
 use Rattle.resolve.specs.declared.words.Table.{Table}
 use Rattle.resolve.specs.declared.root.Resolved.{Resolved}
 use Rattle.resolve.specs.declared.root.Resolved.the-variants as read
-use Rattle.resolve.specs.Words.{valuesAt, patternsAt, numbersAt, tableEnd, tableIn, marksIn, Lies, Holding, Framed}
+use Rattle.resolve.specs.Words.{valuesAt, patternsAt, numbersAt, tableEnd, tableIn, Lies, Holding, Framed}
 use Rattle.resolve.specs.Kept.{Indexed, Interns}
-use Rattle.resolve.specs.Moved.{table-set, table-long, nodes-most, framed-moves, lies-moves, holding-moves, table-apart, lies-apart, framed-apart, framed-then}
-use Rattle.resolve.specs.Asked.{Graphed, Asking, Ripe, Keyed, NumbersOf, finds-moves, finds-word, graph-long}
-use Rattle.resolve.specs.Roots.{Open, Any, Variable, Named, Fixed, Applied, Opening, readsAs, Given, Gives}
+use Rattle.resolve.specs.Moved.{table-set, table-long, framed-moves, holding-moves, table-apart, lies-apart, framed-apart, framed-then}
+use Rattle.resolve.specs.Asked.{Asking, finds-moves, finds-word, graph-long}
+use Rattle.resolve.specs.Keys.{Ripe, Keyed}
+use Rattle.resolve.specs.Roots.{Open, Named, Fixed, Applied, Opening, Gives}
 use Rattle.resolve.specs.Given.{read-word, node-given, node-few, number-room, named-is, value-said, value-below, valued-is, applied-is, given-same, lies-set, framed-set}
 
 -- what holds of each of a list holds at each place

@@ -14,7 +14,7 @@ use lift::walk::Lifted;
 use lift::walk::lift;
 use store::nodes::Interned;
 use store::nodes::Store;
-ghost use Rattle.resolve.specs.Roots.{Opening, Named, Fixed, Variable, Applied, Any, Gives, Notes};
+ghost use Rattle.resolve.specs.Roots.{Opening, Variable, Any, Gives, Naming, Names, Valuing, Values, Applying, Applies, Notes};
 
 // What was read: the pattern, the store with it, and how many variables are numbered; or that the words have no room.
 pub enum Resolved {
@@ -24,21 +24,17 @@ pub enum Resolved {
 
 // Variable `x` by the next number.
 fn read_number(
-    pack: &[u8],
     work: &mut [u32],
     words: &mut [u32],
     cells: &[u32],
-    c: Catalog,
     l: Lifted,
     t: Table,
     st: Store,
-    g: Graph,
     numbered: usize,
-    everyone: bool,
     x: Node,
 ) -> Resolved
-    requires { ⌜ Opening (now pack) (now work) (now words) (now cells) c l t st g numbered everyone (x .0) (Named everyone (x .0)) ⌝ }
-    ensures { λ r. ⌜ Gives (now (pack .entry)) (now (work .entry)) (now (words .entry)) (now (work .exit)) (now (words .exit)) (now (cells .entry)) c l t st g numbered everyone (x .0) (Named everyone (x .0)) r ⌝ }
+    requires { ⌜ Naming (now work) (now words) (now cells) l t st numbered (x .0) ⌝ }
+    ensures { λ r. ⌜ Names (now (work .entry)) (now (words .entry)) (now (work .exit)) (now (words .exit)) (now (cells .entry)) l t st numbered (x .0) r ⌝ }
 {
     let sort = word_at(work, t, 5 * x.0 as usize + 2);
     let mut key = [0; 3];
@@ -64,13 +60,11 @@ fn read_value(
     l: Lifted,
     t: Table,
     st: Store,
-    g: Graph,
     numbered: usize,
-    everyone: bool,
     x: Node,
 ) -> Resolved
-    requires { ⌜ Opening (now pack) (now work) (now words) (now cells) c l t st g numbered everyone (x .0) (Fixed everyone (x .0)) ⌝ }
-    ensures { λ r. ⌜ Gives (now (pack .entry)) (now (work .entry)) (now (words .entry)) (now (work .exit)) (now (words .exit)) (now (cells .entry)) c l t st g numbered everyone (x .0) (Fixed everyone (x .0)) r ⌝ }
+    requires { ⌜ Valuing (now pack) (now work) (now words) (now cells) c l t st numbered (x .0) ⌝ }
+    ensures { λ r. ⌜ Values (now (pack .entry)) (now (work .entry)) (now (words .entry)) (now (work .exit)) (now (words .exit)) (now (cells .entry)) c l t st numbered (x .0) r ⌝ }
 {
     let value = word_at(work, t, 8 * cells.len() + 7 + x.0 as usize) - 1;
     match lift(pack, work, words, c, l, st, Ground(value)) {
@@ -98,54 +92,25 @@ fn read_variable(
     ensures { λ r. ⌜ Gives (now (pack .entry)) (now (work .entry)) (now (words .entry)) (now (work .exit)) (now (words .exit)) (now (cells .entry)) c l t st g numbered everyone (x .0) (Variable (x .0)) r ⌝ }
 {
     if numbers(work, cells, t, g, x, everyone) {
-        return read_number(
-            pack,
-            work,
-            words,
-            cells,
-            c,
-            l,
-            t,
-            st,
-            g,
-            numbered,
-            everyone,
-            x,
-        );
+        return read_number(work, words, cells, l, t, st, numbered, x);
     }
-    read_value(
-        pack,
-        work,
-        words,
-        cells,
-        c,
-        l,
-        t,
-        st,
-        g,
-        numbered,
-        everyone,
-        x,
-    )
+    read_value(pack, work, words, cells, c, l, t, st, numbered, x)
 }
 
 // Application `x` over what its arguments' roots were read back as.
 fn read_applied(
-    pack: &[u8],
     work: &mut [u32],
     words: &mut [u32],
     cells: &[u32],
-    c: Catalog,
     l: Lifted,
     t: Table,
     st: Store,
     g: Graph,
     numbered: usize,
-    everyone: bool,
     x: Node,
 ) -> Resolved
-    requires { ⌜ Opening (now pack) (now work) (now words) (now cells) c l t st g numbered everyone (x .0) (Applied (x .0)) ⌝ }
-    ensures { λ r. ⌜ Gives (now (pack .entry)) (now (work .entry)) (now (words .entry)) (now (work .exit)) (now (words .exit)) (now (cells .entry)) c l t st g numbered everyone (x .0) (Applied (x .0)) r ⌝ }
+    requires { ⌜ Applying (now work) (now words) (now cells) l t st g numbered (x .0) ⌝ }
+    ensures { λ r. ⌜ Applies (now (work .entry)) (now (words .entry)) (now (work .exit)) (now (words .exit)) (now (cells .entry)) l t st g numbered (x .0) r ⌝ }
 {
     let mut key = [0; 17];
     let k = key_of(work, cells, t, g, x, &mut key);
@@ -191,20 +156,7 @@ fn read_either(
             x,
         );
     }
-    read_applied(
-        pack,
-        work,
-        words,
-        cells,
-        c,
-        l,
-        t,
-        st,
-        g,
-        numbered,
-        everyone,
-        x,
-    )
+    read_applied(work, words, cells, l, t, st, g, numbered, x)
 }
 
 // Root `x` is read back and has its pattern's word from then on.

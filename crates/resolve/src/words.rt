@@ -11,7 +11,8 @@ ghost use Prim.Native.Nat.{_+_, _≤_, _<_};
 ghost use lib.ListN.{length, getD, set};
 ghost use Rattle.resolve.specs.Words.{tableIn};
 ghost use Rattle.resolve.specs.Kept.{Indexed, Interns};
-ghost use Rattle.resolve.specs.Asked.{Asking, Arguing, Rooted, CountOf, NumbersOf, Ripe, Keyed};
+ghost use Rattle.resolve.specs.Asked.{Asking, Arguing, Rooted, CountOf, NumbersOf};
+ghost use Rattle.resolve.specs.Keys.{Ripe, Keyed};
 
 // Where the graph's table stands in work: rows, behind them the pairs, here the walk's stack, behind these a colour for each node, then
 // for each its ground value and one or 0, then the pattern that it was read back as and one or 0, then the variable of each number.

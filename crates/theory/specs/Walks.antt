@@ -13,3 +13,6 @@ pub mod Deep
 pub mod Resolving
 pub mod Ahead
 pub mod Valuing
+pub mod Matching
+pub mod MatchTurns
+pub mod Matched

@@ -22,6 +22,7 @@ mod records;
 mod stand_in;
 mod trial;
 mod tries;
+mod unify;
 mod verdicts;
 mod wrong;
 
@@ -56,6 +57,9 @@ bench: the library beside the Rust original
                           the same with wrong steps and goals, and written packs in
                           the library; check the answers beside the recorded ones,
                           certpack's and document 01's, and that work is cleared
+  bench unify             unify published pairs of terms and drawn ones in the library;
+                          check what comes back beside a plain unifier, and beside the
+                          original where it is in the build
   bench --help            this page
 
 `bench intern` wants a build with the feature `original`.
@@ -81,6 +85,7 @@ fn run(args: &[&str]) -> Result<String, Fault> {
         ["checks", folder] => Ok(checks::check(folder)?),
         ["check"] => Ok(check_pace::report(false)?),
         ["check", "--quick"] => Ok(check_pace::report(true)?),
+        ["unify"] => Ok(unify::check()?),
         _ => Err(cli::unknown(args)),
     }
 }

@@ -1,12 +1,13 @@
 -- `valued` of pairs put ahead of others, and at whatever depth is enough.
-use mathlib.Core.Path.{_≡_, refl, ap, _∙_}
+use mathlib.Core.Path.{_≡_, refl, ap, ap₂, _∙_}
 use mathlib.Core.Bool.{true, false}
 use mathlib.Core.List.{List, [], _∷_, map}
 use mathlib.Core.Option.{Option, none, some}
-use Prim.Native.Nat.{ℕ, zero, suc, _+_}
+use Prim.Native.Nat.{ℕ, zero, suc, _+_, _<_}
 use native.Mathlib.Omega.{arith}
 use lib.Dec.{eqb}
-use lib.ListN.{length}
+use lib.ListN.{length, getD, take}
+use lib.Seq.{take-all}
 use Rattle.definition.specs.Test.{is, see, never}
 use Rattle.definition.specs.Pack.{Pack, nodeOf}
 use Rattle.definition.specs.Verdict.{Bound, valueOf, provided, onwards}
@@ -51,6 +52,45 @@ ahead-pairs k (x ∷ xs) (n ∷ ns) work w e b c = elim (see (ahead xs ns work))
       let ih = ahead-pairs k xs ns work v p (b .1) c in
       rw (← q) ((b .0, ih .0), omega (arith, ih .1))
 ]
+
+-- ground nodes below k ahead of others below k are below k
+pub ahead-rights : (k : ℕ) (xs ns : List ℕ) (work w : List Pair) → ahead xs ns work ≡ some w → Below k ns → Below k (rights work) → Below k (rights w)
+unfolding ahead
+ahead-rights k [] [] work w e b c = let q : work ≡ w = cc in rw (← q) c
+ahead-rights k [] (n ∷ ns) work w e b c = never (cc)
+ahead-rights k (x ∷ xs) [] work w e b c = never (cc)
+ahead-rights k (x ∷ xs) (n ∷ ns) work w e b c = elim (see (ahead xs ns work)) [
+  | is none p ↦ let z : none ≡ some w = rw (p, ahead) at e in never (cc)
+  | is (some v) p ↦
+      let z : some (beside x n ∷ v) ≡ some w = rw (p, ahead) at e in
+      let q : beside x n ∷ v ≡ w = cc in
+      rw (← q) (b .0, ahead-rights k xs ns work v p (b .1) c)
+]
+
+-- where one side is longer nothing is put ahead
+pub ahead-unlike : (xs ns : List ℕ) (w : List Pair) → (length xs ≡ length ns → ⊥) → ahead xs ns w ≡ none
+unfolding ahead
+ahead-unlike [] [] w d = absurd (d refl)
+ahead-unlike [] (n ∷ ns) w d = refl
+ahead-unlike (x ∷ xs) [] w d = refl
+ahead-unlike (x ∷ xs) (n ∷ ns) w d = ap (λ (o : Option (List Pair)). elim o [ none ↦ none | some v ↦ some (beside x n ∷ v) ]) (ahead-unlike xs ns w (λ e. d (ap suc e)))
+
+-- pairs put ahead of others from the last one on
+pub ahead-turn : (xs ns : List ℕ) (i : ℕ) (w : List Pair) → i < length xs → i < length ns → ahead (take i xs) (take i ns) (beside (getD xs i 0) (getD ns i 0) ∷ w) ≡ ahead (take (suc i) xs) (take (suc i) ns) w
+unfolding ahead
+ahead-turn [] ns i w h k = absurd (omega arith)
+ahead-turn (x ∷ xs) [] i w h k = absurd (omega arith)
+ahead-turn (x ∷ xs) (n ∷ ns) zero w h k = refl
+ahead-turn (x ∷ xs) (n ∷ ns) (suc i) w h k = ap (λ (o : Option (List Pair)). elim o [ none ↦ none | some v ↦ some (beside x n ∷ v) ]) (ahead-turn xs ns i w (omega arith) (omega arith))
+
+-- all are still to be put there
+pub ahead-all : (xs ns : List ℕ) (k : ℕ) (w : List Pair) → length xs ≡ k → length ns ≡ k → ahead (take k xs) (take k ns) w ≡ ahead xs ns w
+ahead-all xs ns k w h m = ap₂ (λ (a b : List ℕ). ahead a b w) (take-all k xs (omega arith)) (take-all k ns (omega arith))
+
+-- none is
+pub ahead-none : (xs ns : List ℕ) (w : List Pair) → ahead (take 0 xs) (take 0 ns) w ≡ some w
+unfolding ahead
+ahead-none xs ns w = refl
 
 -- what comes after values, alike where the values and what comes after them are
 onwards-same : (o : Option (List Bound)) (f h : List Bound → Option (List Bound)) → ((vs : List Bound) → f vs ≡ h vs) → onwards o f ≡ onwards o h

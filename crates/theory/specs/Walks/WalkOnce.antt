@@ -1,5 +1,5 @@
 -- A memoised walk that finishes each node at most once: what is known after it, and how much it takes in all.
-use mathlib.Core.Path.{_≡_, refl, ap, _∙_}
+use mathlib.Core.Path.{_≡_, refl, sym, ap, _∙_}
 use mathlib.Core.Bool.{Bool, true, false}
 use mathlib.Core.List.{List, [], _∷_}
 use Prim.Native.Nat.{ℕ, zero, suc, _+_, _*_, _<_, _≤_}
@@ -50,6 +50,20 @@ module _ {S : Type 0} (kids : ℕ → List ℕ) (known : S → ℕ → Bool) whe
             | is true j ↦ let i = o ∙ j in rw (i, j, unfinished) ih
             | is false j ↦ let i = o ∙ j in rw (i, j, unfinished) (omega arith)
           ]
+    ]
+
+-- alike where nodes and what is known of them are
+pub unfinished-alike : {A B : Type 0} (kids kids′ : ℕ → List ℕ) (known : A → ℕ → Bool) (known′ : B → ℕ → Bool) (a : A) (b : B) (n : ℕ)
+    → ((x : ℕ) → x < n → kids x ≡ kids′ x) → ((x : ℕ) → x < n → known a x ≡ known′ b x) → unfinished kids known n a ≡ unfinished kids′ known′ n b
+unfolding unfinished
+unfinished-alike kids kids′ known known′ a b zero k e = refl
+unfinished-alike kids kids′ known known′ a b (suc n) k e =
+    let ih = unfinished-alike kids kids′ known known′ a b n (λ x h. k x (omega arith)) (λ x h. e x (omega arith)) in
+    let q = e n (omega arith) in
+    let long : length (kids n) ≡ length (kids′ n) = ap (λ (xs : List ℕ). length xs) (k n (omega arith)) in
+    elim (see (known a n)) [
+      | is true j ↦ let i = sym q ∙ j in rw (j, i, unfinished) ih
+      | is false j ↦ let i = sym q ∙ j in rw (j, i, unfinished) (omega arith)
     ]
 
 -- finishing a node makes it known, and no other node

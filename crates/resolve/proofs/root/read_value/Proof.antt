@@ -6,22 +6,22 @@ use Rattle.resolve.proofs.root.read_value.Statement.{statement}
 use Rattle.resolve.proofs.root.read_value.Tie as tie
 
 add-word-at-2 : tie.Need-add-word-at-2
-add-word-at-2 c = let f = opening-few _ _ _ _ _ _ _ _ _ _ _ _ _ (c .before .before .before .before .before .before .pre) in omega (arith, f .0, f .2, f .3)
+add-word-at-2 c = let f = opening-few _ _ _ _ _ _ _ _ _ _ _ _ _ (c .before .before .before .before .before .before .pre .opening) in omega (arith, f .0, f .2, f .3)
 
 word-at-requires : tie.Need-word-at-requires
-word-at-requires c κs = let f = opening-few _ _ _ _ _ _ _ _ _ _ _ _ _ (c .before .before .before .before .before .before .pre) in (omega (arith, f .0, f .2), f .3)
+word-at-requires c κs = let f = opening-few _ _ _ _ _ _ _ _ _ _ _ _ _ (c .before .before .before .before .before .before .pre .opening) in (omega (arith, f .0, f .2), f .3)
 
 sub-value : tie.Need-sub-value
-sub-value c = value-some _ _ _ _ _ _ _ _ _ _ _ _ (c .before .before .before .before .before .before .before .pre) _ (c .word-at .ensures)
+sub-value c = value-some _ _ _ _ _ _ _ _ _ _ _ _ (c .before .before .before .before .before .before .before .pre .opening) _ (c .word-at .ensures)
 
 lift-requires : tie.Need-lift-requires
-lift-requires c κs = (c .before .before .before .before .before .before .before .before .before .pre .holding .lies .lifts, value-ground _ _ _ _ _ _ _ _ _ _ _ _ (c .before .before .before .before .before .before .before .before .before .pre) _ (c .before .before .word-at .ensures))
+lift-requires c κs = ((c .before .before .before .before .before .before .before .before .before .pre .opening) .holding .lies .lifts, value-ground _ _ _ _ _ _ _ _ _ _ _ _ (c .before .before .before .before .before .before .before .before .before .pre .opening) _ (c .before .before .word-at .ensures))
 
 returns : tie.Need-returns
-returns c = value-gives _ _ _ _ _ _ _ _ _ _ _ _ (c .before .before .before .before .before .before .before .before .before .before .before .before .before .before .before .before .before .pre) _ (c .before .before .before .before .before .before .before .before .before .before .word-at .ensures) (c .before .before .before .before .before .before .before .lift .last .1 .0) (c .before .before .before .before .before .before .before .lift .last .1 .1 .0) _ _ (rw (c .before .p .given .1) at (c .before .before .before .before .before .before .before .lift .ensures))
+returns c = λ e f K. value-gives _ _ _ _ _ _ _ _ _ _ _ _ K _ (c .before .before .before .before .before .before .before .before .before .before .word-at .ensures) (c .before .before .before .before .before .before .before .lift .last .1 .0) (c .before .before .before .before .before .before .before .lift .last .1 .1 .0) _ _ (rw (c .before .p .given .1) at (c .before .before .before .before .before .before .before .lift .ensures))
 
 returns-2 : tie.Need-returns-2
-returns-2 c = value-short _ _ _ _ _ _ _ _ _ _ _ _ (c .before .before .before .before .before .before .before .before .before .before .before .before .before .before .before .before .pre) _ (c .before .before .before .before .before .before .before .before .before .word-at .ensures) (c .before .before .before .before .before .before .lift .last .1 .0) (c .before .before .before .before .before .before .lift .last .1 .1 .0) (rw (c .enum-told .given .1) at (c .before .before .before .before .before .before .lift .ensures))
+returns-2 c = λ e f K. value-short _ _ _ _ _ _ _ _ _ _ _ _ K _ (c .before .before .before .before .before .before .before .before .before .word-at .ensures) (c .before .before .before .before .before .before .lift .last .1 .0) (c .before .before .before .before .before .before .lift .last .1 .1 .0) (rw (c .enum-told .given .1) at (c .before .before .before .before .before .before .lift .ensures))
 
 pub read-value-spec : {M : Type 1} → statement M
 read-value-spec =

@@ -1,7 +1,7 @@
 -- `advance` meets its contract.
 use borrow.Author.Needs.{needs}
 use native.Mathlib.Omega.{arith}
-use Rattle.resolve.specs.Turns.{turning-there, turning-small, turning-top, at-word, at-asking, at-passed, at-entering, at-entered, at-opening, at-short, at-finished}
+use Rattle.resolve.specs.Turned.{turning-there, turning-small, turning-top, at-word, at-asking, at-passed, at-entering, at-entered, at-opening, at-short, at-finished}
 use Rattle.resolve.proofs.walk.advance.Statement.{statement}
 use Rattle.resolve.proofs.walk.advance.Tie as tie
 

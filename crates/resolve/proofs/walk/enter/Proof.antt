@@ -2,8 +2,6 @@
 use borrow.Author.Needs.{needs}
 use native.Mathlib.Omega.{arith}
 use Rattle.resolve.specs.Frames.{enter-there, enters-so}
-use mathlib.Core.Path.{_∙_}
-use lib.ListN.{length-set}
 use Rattle.resolve.proofs.walk.enter.Statement.{statement}
 use Rattle.resolve.proofs.walk.enter.Tie as tie
 

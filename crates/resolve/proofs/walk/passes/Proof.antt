@@ -1,6 +1,5 @@
 -- `passes` meets its contract.
 use borrow.Author.Needs.{needs}
-use native.Mathlib.Omega.{arith}
 use mathlib.Core.Path.{ap, _∙_}
 use lib.Dec.{ltb}
 use Rattle.lift.specs.Memo.{dropped-not, dropped-new}

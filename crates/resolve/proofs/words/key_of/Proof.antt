@@ -2,7 +2,7 @@
 use borrow.Author.Needs.{needs}
 use Prim.Native.Nat.{_-_}
 use mathlib.Core.Path.{sym, _∙_}
-use Rattle.resolve.specs.Asked.{Keying, keying-first, keying-arguing, keying-there, keying-fits, keying-said, keying-more, keying-all}
+use Rattle.resolve.specs.Keys.{Keying, keying-first, keying-arguing, keying-there, keying-fits, keying-said, keying-more, keying-all}
 use native.Mathlib.Omega.{arith}
 use Rattle.resolve.proofs.words.key_of.Statement.{statement}
 use Rattle.resolve.proofs.words.key_of.Tie as tie

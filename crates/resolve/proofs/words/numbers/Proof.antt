@@ -1,7 +1,5 @@
 -- `numbers` meets its contract.
 use borrow.Author.Needs.{needs}
-use mathlib.Core.Path.{sym, ap, _∙_}
-use mathlib.Core.Bool.{_||_}
 use Rattle.resolve.specs.Asked.{asking-row, numbers-all, numbers-flex}
 use native.Mathlib.Omega.{arith}
 use Rattle.resolve.proofs.words.numbers.Statement.{statement}

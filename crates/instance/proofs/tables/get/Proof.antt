@@ -1,0 +1,20 @@
+-- `get` meets its contract.
+use borrow.Author.Needs.{needs}
+use Rattle.instance.specs.Tables.{recallAt}
+use Rattle.instance.proofs.tables.get.Statement.{statement}
+use Rattle.instance.proofs.tables.get.Tie as tie
+
+returns : tie.Need-returns
+unfolding recallAt
+returns c = c .get .ensures
+
+pub get-spec : {M : Type 1} → statement M
+get-spec =
+    tie.close
+    (tie.spec
+    (λ c. search needs)
+    (λ c. search needs)
+    (λ c. search needs)
+    (λ c. search needs)
+    (λ c κs. search needs)
+    returns)

@@ -1,0 +1,127 @@
+-- What a call leaves: the nodes that the words stand for, what unification makes of them, and the answer.
+use mathlib.Core.Bool.{Bool, true, false, _||_}
+use mathlib.Core.List.{List, [], _∷_, map}
+use mathlib.Core.Option.{none, some}
+use Prim.Native.Nat.{ℕ, zero, suc, _+_, _*_}
+use lib.Dec.{eqb, leb, ltb}
+use lib.ListN.{length, getD, take, drop, replicate}
+use Rattle.definition.specs.Test.{_and_, all}
+use Rattle.definition.specs.Store.{variableHead}
+use Rattle.definition.specs.Graph.{Vertex, Graph, variableVertex, applied, push, cells, root, Unified, unify, upTo, circular}
+use Rattle.definition.specs.Answer.{padded}
+use Rattle.graph.specs.Cells.{markIn}
+use Rattle.unifier.specs.declared.Unification.{Unification}
+
+-- ---- reading
+-- so many words the node ahead takes: a variable, a sort and two marks, or a head, a number of arguments and the arguments
+unfoldable pub wordsOf : List ℕ → ℕ
+wordsOf ws = elim (eqb (getD ws 0 0) variableHead) [ true ↦ 4 | false ↦ 2 + getD ws 1 0 ]
+
+-- the node ahead
+unfoldable pub nodeOf : List ℕ → Vertex
+nodeOf ws = elim (eqb (getD ws 0 0) variableHead) [
+  | true ↦ variableVertex (getD ws 1 0) (markIn (getD ws 2 0)) (markIn (getD ws 3 0))
+  | false ↦ applied (getD ws 0 0) (take (getD ws 1 0) (drop 2 ws))
+]
+
+-- the arguments are among n earlier nodes
+unfoldable pub earlier : ℕ → List ℕ → Bool
+unfolding all
+earlier n args = all (λ a. ltb a n) args
+
+-- the words ahead are a node behind n others
+unfoldable pub isNode : ℕ → List ℕ → Bool
+unfolding wordsOf nodeOf earlier _and_
+isNode n ws = leb (wordsOf ws) (length ws) and earlier n (nodeOf ws .args)
+
+-- all nodes, or that words are none, or that nodes need more cells than are lent, by whichever comes first
+pub data Listed : Type 0 where
+  whole : Graph → Listed
+  broken : Listed
+  full : Listed
+
+-- at most k nodes are read behind those of g, into so many cells
+unfoldable pub readNodes : ℕ → ℕ → Graph → List ℕ → Listed
+unfolding isNode wordsOf nodeOf push cells
+readNodes zero room g ws = whole g
+readNodes (suc k) room g [] = whole g
+readNodes (suc k) room g (w ∷ ws) =
+    elim (isNode (length g) (w ∷ ws)) [
+      | false ↦ broken
+      | true ↦
+          let h = push g (nodeOf (w ∷ ws)) .graph in
+          elim (leb (cells h) room) [ false ↦ full | true ↦ readNodes k room h (drop (wordsOf (w ∷ ws)) (w ∷ ws)) ]
+    ]
+
+-- each takes a word or more
+unfoldable pub listed : List ℕ → ℕ → Listed
+unfolding readNodes
+listed terms room = readNodes (length terms) room [] terms
+
+-- ---- answering
+-- an answer, and the roots
+pub record Told : Type 0 where
+  pub answer : Unification
+  pub roots : List ℕ
+
+-- in a buffer for so many roots, with zeros behind them
+unfoldable pub tells : ℕ → ℕ → ℕ → List ℕ → ℕ → Told
+unfolding padded
+tells code taken circular rs n = record { answer = record { code = code; taken = taken; circular = circular }; roots = padded n rs }
+
+-- a refusal tells no more than its code
+unfoldable pub refused : ℕ → ℕ → Told
+unfolding tells
+refused code n = tells code 0 0 [] n
+
+-- the roots of the first n nodes
+unfoldable pub rootsTo : Graph → ℕ → List ℕ
+unfolding root upTo
+rootsTo g n = map (root g) (upTo n)
+
+abbrev pub bit : Bool → ℕ
+bit true = 1
+bit false = 0
+
+-- joined, with the roots and whether there is a circle, or a clash
+unfoldable pub ended : Unified → ℕ → Told
+unfolding tells circular rootsTo
+ended u n = elim (u .graph) [ none ↦ tells 1 (u .taken) 0 [] n | some h ↦ tells 0 (u .taken) (bit (circular h)) (rootsTo h (length h)) n ]
+
+-- both are nodes, and there is a place for each root
+unfoldable pub asked : Graph → ℕ → ℕ → ℕ → Told
+unfolding refused ended unify _and_
+asked g x y n =
+    elim (ltb x (length g) and ltb y (length g)) [
+      | false ↦ refused 2 n
+      | true ↦ elim (leb (length g) n) [ false ↦ refused 3 n | true ↦ ended (unify g x y) n ]
+    ]
+
+-- too many cells, or fewer words of work than the graph's table, its pairs and its colours take
+unfoldable pub unfit : ℕ → ℕ → Bool
+unfit cells work = leb 16777216 cells || ltb work (8 * cells + 7)
+
+-- of all that is read
+unfoldable pub askedOf : Listed → ℕ → ℕ → ℕ → Told
+unfolding refused asked
+askedOf (whole g) x y n = asked g x y n
+askedOf broken x y n = refused 2 n
+askedOf full x y n = refused 3 n
+
+unfoldable pub solved : List ℕ → ℕ → ℕ → ℕ → ℕ → ℕ → Told
+unfolding unfit refused listed askedOf
+solved terms x y roots cells work = elim (unfit cells work) [ true ↦ refused 3 roots | false ↦ askedOf (listed terms cells) x y roots ]
+
+-- a call's answer and its three buffers
+pub record Left : Type 0 where
+  pub answer : Unification
+  pub roots : List ℕ
+  pub cells : List ℕ
+  pub work : List ℕ
+
+-- what a call leaves, by what it reads and the three lengths lent
+unfoldable pub leaves : List ℕ → ℕ → ℕ → ℕ → ℕ → ℕ → Left
+unfolding solved
+leaves terms x y roots cells work =
+    let t = solved terms x y roots cells work in
+    record { answer = t .answer; roots = t .roots; cells = replicate cells 0; work = replicate work 0 }

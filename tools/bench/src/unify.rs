@@ -1,0 +1,555 @@
+//! The library's unification alone: published examples, drawn terms beside a plain
+//! recursive unifier and, in a build that has it, the original's; and calls that it refuses.
+use crate::numbers::Numbers;
+use crate::ours::zeros;
+use std::collections::HashMap;
+
+/// What a call says: 0 joined, 1 a clash, 2 no such list or no such node, 3 lengths; how
+/// many pairs were taken, and 1 if there is a circle.
+#[repr(C)]
+#[derive(Clone, Copy, Debug, PartialEq, Eq)]
+struct Unification {
+    code: u64,
+    taken: u64,
+    circular: u64,
+}
+
+const JOINED: u64 = 0;
+const CLASH: u64 = 1;
+const LIST: u64 = 2;
+const LENGTHS: u64 = 3;
+
+unsafe extern "C" {
+    fn unify_nodes(
+        terms: *const u32,
+        terms_len: usize,
+        x: u64,
+        y: u64,
+        roots: *mut u32,
+        roots_len: usize,
+        cells: *mut u32,
+        cells_len: usize,
+        work: *mut u32,
+        work_len: usize,
+    ) -> Unification;
+}
+
+/// In place of a head: the node is a variable.
+const VAR: u32 = u32::MAX - 1;
+/// What buffers hold ahead of a call.
+const JUNK: u32 = 0xdead_beef;
+
+/// A node over earlier ones.
+#[derive(Clone, Debug)]
+pub enum Node {
+    Var { flex: bool, rigid: bool },
+    App(u32, Vec<u32>),
+}
+
+const FREE: Node = Node::Var {
+    flex: false,
+    rigid: false,
+};
+
+/// The words that stand for nodes.
+fn words(nodes: &[Node]) -> Vec<u32> {
+    let mut words = Vec::new();
+    for node in nodes {
+        match node {
+            Node::Var { flex, rigid } => {
+                words.extend([VAR, 0, u32::from(*flex), u32::from(*rigid)])
+            }
+            Node::App(head, args) => {
+                words.extend([*head, args.len() as u32]);
+                words.extend(args);
+            }
+        }
+    }
+    words
+}
+
+/// As many cells as the nodes take.
+fn cells(nodes: &[Node]) -> usize {
+    let width = |node: &Node| match node {
+        Node::Var { .. } => 1,
+        Node::App(_, args) => 1 + args.len(),
+    };
+    nodes.iter().map(width).sum()
+}
+
+/// The lengths lent in one call.
+#[derive(Clone, Copy)]
+struct Lent {
+    roots: usize,
+    cells: usize,
+    work: usize,
+}
+
+impl Lent {
+    fn exact(nodes: &[Node]) -> Self {
+        let cells = cells(nodes);
+        Lent {
+            roots: nodes.len(),
+            cells,
+            work: 8 * cells + 7,
+        }
+    }
+}
+
+/// One call; cells and work must come back as zeros, and roots too unless it is joined.
+fn call(terms: &[u32], x: u64, y: u64, lent: Lent) -> Result<(Unification, Vec<u32>), String> {
+    let mut roots = vec![JUNK; lent.roots];
+    let mut cells = vec![JUNK; lent.cells];
+    let mut work = vec![JUNK; lent.work];
+    // SAFETY: four slices of their own, each with its own length.
+    let answer = unsafe {
+        unify_nodes(
+            terms.as_ptr(),
+            terms.len(),
+            x,
+            y,
+            roots.as_mut_ptr(),
+            roots.len(),
+            cells.as_mut_ptr(),
+            cells.len(),
+            work.as_mut_ptr(),
+            work.len(),
+        )
+    };
+    zeros("cells", &cells)?;
+    zeros("work", &work)?;
+    if answer.code != JOINED {
+        zeros("roots", &roots)?;
+    }
+    Ok((answer, roots))
+}
+
+pub fn check() -> Result<String, String> {
+    let examples = published()?;
+    shared()?;
+    refusals()?;
+    let drawn = drawn()?;
+    Ok(format!(
+        "{examples} published pairs and {drawn} drawn ones unified\n"
+    ))
+}
+
+/// Two terms as printed, and what becomes of variables: none after a clash, no pairs of
+/// one but for a circle.
+struct Example {
+    left: &'static str,
+    right: &'static str,
+    outcome: Outcome,
+}
+
+enum Outcome {
+    Joined(&'static [(&'static str, &'static str)]),
+    Clash,
+    Circle,
+}
+use Outcome::{Circle, Clash, Joined};
+
+/// Chang and Lee, Symbolic Logic and Mechanical Theorem Proving (1973), 5.4, two; Martelli
+/// and Montanari, An Efficient Unification Algorithm (1982), its example; and the pairs by
+/// which Robinson's test for a variable inside its own term is explained.
+const EXAMPLES: [Example; 6] = [
+    Example {
+        left: "P(a,x,f(g(y)))",
+        right: "P(z,f(z),f(u))",
+        outcome: Joined(&[("z", "a"), ("x", "f(a)"), ("u", "g(y)")]),
+    },
+    Example {
+        left: "Q(f(a),g(x))",
+        right: "Q(y,y)",
+        outcome: Clash,
+    },
+    Example {
+        left: "f(x1,g(x2,x3),x2,b)",
+        right: "f(g(h(a,x5),x2),x1,h(a,x4),x4)",
+        outcome: Joined(&[
+            ("x1", "g(h(a,b),h(a,b))"),
+            ("x2", "h(a,b)"),
+            ("x3", "h(a,b)"),
+            ("x4", "b"),
+            ("x5", "b"),
+        ]),
+    },
+    Example {
+        left: "P(x,x)",
+        right: "P(y,f(y))",
+        outcome: Circle,
+    },
+    Example {
+        left: "P(x,f(y))",
+        right: "P(f(y),x)",
+        outcome: Joined(&[("x", "f(y)")]),
+    },
+    Example {
+        left: "P(x,y)",
+        right: "P(f(y),f(x))",
+        outcome: Circle,
+    },
+];
+
+/// Nodes of printed terms: a name that starts with u to z is a variable.
+#[derive(Default)]
+struct Printed {
+    nodes: Vec<Node>,
+    heads: Vec<String>,
+    variables: HashMap<String, u32>,
+}
+
+impl Printed {
+    fn push(&mut self, node: Node) -> u32 {
+        self.nodes.push(node);
+        self.nodes.len() as u32 - 1
+    }
+
+    fn head(&mut self, name: &str) -> u32 {
+        let at = self.heads.iter().position(|head| head == name);
+        at.unwrap_or_else(|| {
+            self.heads.push(name.into());
+            self.heads.len() - 1
+        }) as u32
+    }
+
+    /// The term ahead in `text`, which is left behind it.
+    fn term(&mut self, text: &mut &str) -> u32 {
+        let end = text.find(['(', ')', ',']).unwrap_or(text.len());
+        let name = &text[..end];
+        *text = &text[end..];
+        if name.starts_with(['u', 'v', 'w', 'x', 'y', 'z']) {
+            if let Some(&node) = self.variables.get(name) {
+                return node;
+            }
+            let node = self.push(FREE);
+            self.variables.insert(name.into(), node);
+            return node;
+        }
+        let mut args = Vec::new();
+        while text.starts_with(['(', ',']) && (args.is_empty() == text.starts_with('(')) {
+            *text = &text[1..];
+            args.push(self.term(text));
+        }
+        if !args.is_empty() {
+            *text = &text[1..];
+        }
+        let head = self.head(name);
+        self.push(Node::App(head, args))
+    }
+
+    /// A node's term, along the roots.
+    fn show(&self, roots: &[u32], node: u32) -> String {
+        let root = roots[node as usize];
+        match &self.nodes[root as usize] {
+            Node::Var { .. } => {
+                let name = self.variables.iter().find(|(_, v)| **v == root);
+                name.map_or("?".into(), |(name, _)| name.clone())
+            }
+            Node::App(head, args) => {
+                let head = &self.heads[*head as usize];
+                if args.is_empty() {
+                    return head.clone();
+                }
+                let args: Vec<String> = args.iter().map(|&a| self.show(roots, a)).collect();
+                format!("{head}({})", args.join(","))
+            }
+        }
+    }
+}
+
+fn published() -> Result<usize, String> {
+    for example in &EXAMPLES {
+        let at = |why: String| format!("{} and {}: {why}", example.left, example.right);
+        let mut terms = Printed::default();
+        let x = terms.term(&mut &*example.left);
+        let y = terms.term(&mut &*example.right);
+        let (answer, roots) = call(
+            &words(&terms.nodes),
+            x.into(),
+            y.into(),
+            Lent::exact(&terms.nodes),
+        )
+        .map_err(at)?;
+        let wanted = match example.outcome {
+            Joined(_) => (JOINED, 0),
+            Clash => (CLASH, 0),
+            Circle => (JOINED, 1),
+        };
+        if (answer.code, answer.circular) != wanted {
+            return Err(at(format!("{answer:?}")));
+        }
+        if let Joined(values) = example.outcome {
+            for &(name, value) in values {
+                let shown = terms.show(&roots, terms.variables[name]);
+                if shown != value {
+                    return Err(at(format!("{name} is {shown}, not {value}")));
+                }
+            }
+            if terms.show(&roots, x) != terms.show(&roots, y) {
+                return Err(at("the two terms differ".into()));
+            }
+        }
+        agree(&terms.nodes, x, y).map_err(at)?;
+    }
+    Ok(EXAMPLES.len())
+}
+
+/// Terms that double with each variable: h(x1,..,xn,f(y0,y0),..,yn) and
+/// h(f(x0,x0),..,y1,..,yn,xn). Joined nodes are taken once, so the pairs stay few.
+fn shared() -> Result<(), String> {
+    const N: usize = 200;
+    let (h, f) = (0, 1);
+    let mut nodes = vec![FREE; 2 * (N + 1)];
+    let (x, y) = (|i: usize| i as u32, |i: usize| (N + 1 + i) as u32);
+    let mut doubled = |v: u32| {
+        nodes.push(Node::App(f, vec![v, v]));
+        nodes.len() as u32 - 1
+    };
+    let xs: Vec<u32> = (0..N).map(|i| doubled(x(i))).collect();
+    let ys: Vec<u32> = (0..N).map(|i| doubled(y(i))).collect();
+    let left = (1..=N).map(x).chain(ys).chain([y(N)]).collect();
+    let right = xs.into_iter().chain((1..=N).map(y)).chain([x(N)]).collect();
+    nodes.push(Node::App(h, left));
+    nodes.push(Node::App(h, right));
+    let top = nodes.len() as u32 - 1;
+    agree(&nodes, top - 1, top).map_err(|why| format!("terms that double: {why}"))
+}
+
+/// Classes of nodes, by a number for each; no links.
+struct Plain<'a> {
+    nodes: &'a [Node],
+    class: Vec<u32>,
+}
+
+impl Plain<'_> {
+    /// A node of the class that is no free variable.
+    fn fixed(&self, class: u32) -> Option<usize> {
+        let free = |node: &Node| matches!(node, Node::Var { rigid: false, .. });
+        (0..self.nodes.len()).find(|&i| self.class[i] == class && !free(&self.nodes[i]))
+    }
+
+    /// Whether the two can be made equal.
+    fn equate(&mut self, x: u32, y: u32) -> bool {
+        let (a, b) = (self.class[x as usize], self.class[y as usize]);
+        if a == b {
+            return true;
+        }
+        let both = self.fixed(a).zip(self.fixed(b));
+        for class in &mut self.class {
+            if *class == a {
+                *class = b;
+            }
+        }
+        let nodes = self.nodes;
+        match both.map(|(i, j)| (&nodes[i], &nodes[j])) {
+            None => true,
+            Some((Node::App(f, xs), Node::App(g, ys))) => {
+                f == g && xs.iter().zip(ys).all(|(&x, &y)| self.equate(x, y))
+            }
+            Some(_) => false,
+        }
+    }
+
+    /// Whether some class is a part of itself: ended ones are taken away until none is left to take.
+    fn circular(&self) -> bool {
+        let n = self.nodes.len();
+        let mut ended = vec![false; n];
+        loop {
+            let ends = |i: usize, ended: &[bool]| match self.fixed(i as u32).map(|j| &self.nodes[j])
+            {
+                Some(Node::App(_, args)) => {
+                    args.iter().all(|&a| ended[self.class[a as usize] as usize])
+                }
+                _ => true,
+            };
+            let Some(i) = (0..n).find(|&i| !ended[i] && ends(i, &ended)) else {
+                return ended.contains(&false);
+            };
+            ended[i] = true;
+        }
+    }
+
+    /// The pairs taken by which all is joined: the first, and a pair of each argument of two applications joined.
+    fn taken(&self) -> usize {
+        let mut seen = vec![false; self.nodes.len()];
+        let mut taken = 1;
+        for (i, node) in self.nodes.iter().enumerate() {
+            if let Node::App(_, args) = node {
+                let class = self.class[i] as usize;
+                taken += if seen[class] { args.len() } else { 0 };
+                seen[class] = true;
+            }
+        }
+        taken
+    }
+}
+
+/// The library's answer is the plain unifier's, and the original's.
+fn agree(nodes: &[Node], x: u32, y: u32) -> Result<(), String> {
+    let (answer, roots) = call(&words(nodes), x.into(), y.into(), Lent::exact(nodes))?;
+    let class = (0..nodes.len() as u32).collect();
+    let mut plain = Plain { nodes, class };
+    let joined = plain.equate(x, y);
+    if answer.code != if joined { JOINED } else { CLASH } {
+        return Err(format!("{answer:?}, and the plain unifier says {joined}"));
+    }
+    #[cfg(feature = "original")]
+    original(nodes, x, y, joined.then_some(&roots[..]))?;
+    if !joined {
+        return Ok(());
+    }
+    let wanted = (plain.taken() as u64, u64::from(plain.circular()));
+    if (answer.taken, answer.circular) != wanted {
+        return Err(format!("{answer:?}, not {wanted:?}"));
+    }
+    let mut root_of = HashMap::new();
+    let mut class_of = HashMap::new();
+    for (i, &root) in roots.iter().enumerate() {
+        let class = plain.class[i];
+        if *root_of.entry(class).or_insert(root) != root
+            || *class_of.entry(root).or_insert(class) != class
+        {
+            return Err(format!("node {i} has root {root}, not that of its class"));
+        }
+        if roots.get(root as usize) != Some(&root) {
+            return Err(format!("node {i} has root {root}, which is none"));
+        }
+        if plain.fixed(class).is_some()
+            && matches!(nodes[root as usize], Node::Var { rigid: false, .. })
+        {
+            return Err(format!("node {i} has root {root}, a variable, and a term"));
+        }
+    }
+    Ok(())
+}
+
+/// The original gives the same roots.
+#[cfg(feature = "original")]
+fn original(nodes: &[Node], x: u32, y: u32, roots: Option<&[u32]>) -> Result<(), String> {
+    let theirs = crate::generalize::door::unify(nodes, x, y)?;
+    match theirs.as_deref() == roots {
+        true => Ok(()),
+        false => Err(format!("the original has roots {theirs:?}, not {roots:?}")),
+    }
+}
+
+/// Heads of 0 to 3 arguments, two of each.
+const HEADS: usize = 8;
+
+fn drawn() -> Result<usize, String> {
+    const PAIRS: usize = 20_000;
+    let mut numbers = Numbers::default();
+    for pair in 0..PAIRS {
+        let n = 2 + numbers.below(if pair % 100 == 0 { 60 } else { 16 });
+        let nodes: Vec<Node> = (0..n).map(|i| draw(&mut numbers, i)).collect();
+        let (x, y) = (numbers.below(n) as u32, numbers.below(n) as u32);
+        agree(&nodes, x, y).map_err(|why| format!("nodes {x} and {y} of {nodes:?}: {why}"))?;
+    }
+    Ok(PAIRS)
+}
+
+/// A node behind `earlier` others.
+fn draw(numbers: &mut Numbers, earlier: usize) -> Node {
+    if earlier == 0 || numbers.below(5) < 2 {
+        return Node::Var {
+            flex: numbers.below(3) == 0,
+            rigid: numbers.below(8) == 0,
+        };
+    }
+    let head = numbers.below(HEADS) as u32;
+    let args = (0..head / 2)
+        .map(|_| numbers.below(earlier) as u32)
+        .collect();
+    Node::App(head, args)
+}
+
+/// Calls that are refused, and at which length.
+fn refusals() -> Result<(), String> {
+    let nodes = [
+        FREE,
+        Node::App(1, vec![0]),
+        Node::App(2, vec![]),
+        Node::App(1, vec![2]),
+    ];
+    let terms = words(&nodes);
+    let lent = Lent::exact(&nodes);
+    let ask = |what: &str, terms: &[u32], x, y, lent, wanted| {
+        let (answer, _) = call(terms, x, y, lent).map_err(|why| format!("{what}: {why}"))?;
+        match answer.code == wanted {
+            true => Ok(()),
+            false => Err(format!("{what}: {answer:?}, not code {wanted}")),
+        }
+    };
+    ask("exact lengths", &terms, 1, 3, lent, JOINED)?;
+    ask(
+        "a cell less",
+        &terms,
+        1,
+        3,
+        Lent {
+            cells: lent.cells - 1,
+            ..lent
+        },
+        LENGTHS,
+    )?;
+    ask(
+        "a word of work less",
+        &terms,
+        1,
+        3,
+        Lent {
+            work: lent.work - 1,
+            ..lent
+        },
+        LENGTHS,
+    )?;
+    ask(
+        "a root less",
+        &terms,
+        1,
+        3,
+        Lent {
+            roots: lent.roots - 1,
+            ..lent
+        },
+        LENGTHS,
+    )?;
+    let many = 1 << 24;
+    ask(
+        "2^24 cells",
+        &terms,
+        1,
+        3,
+        Lent {
+            cells: many,
+            work: 8 * many + 7,
+            ..lent
+        },
+        LENGTHS,
+    )?;
+    ask("no node 4", &terms, 1, 4, lent, LIST)?;
+    ask("no node 2^32", &terms, 1 << 32, 3, lent, LIST)?;
+    ask(
+        "the node itself as its argument",
+        &[1, 1, 0],
+        0,
+        0,
+        lent,
+        LIST,
+    )?;
+    ask("no words", &[], 0, 0, lent, LIST)?;
+    // A list may end behind each node.
+    let mut ends = vec![0];
+    for i in 0..nodes.len() {
+        ends.push(words(&nodes[..=i]).len());
+    }
+    for end in 0..terms.len() {
+        let wanted = match ends.iter().position(|&e| e == end) {
+            Some(n) if n > 0 => JOINED,
+            _ => LIST,
+        };
+        ask(&format!("{end} words"), &terms[..end], 0, 0, lent, wanted)?;
+    }
+    Ok(())
+}
