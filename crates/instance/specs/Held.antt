@@ -76,11 +76,12 @@ recall-more work work′ a e memo k v W vs h j = elim (ℕ-discrete j k) [
   | no d ↦ W .others j (λ q. d (sym q)) ∙ h j ∙ sym (valueOf-old k v vs j d)
 ]
 
--- a memo ahead of what was written, or behind it, recalls the same
+-- a memo ahead of what was written recalls the same
 pub recall-before : (a e : ℕ) (work work′ : List ℕ) → Outside a e work work′ → (b f : ℕ) → b ≤ f → f ≤ a → f ≤ length work → (memo : Memo) (k : ℕ) → recallAt b f work′ memo k ≡ recallAt b f work memo k
 unfolding recallAt
 recall-before a e work work′ A b f h i m memo k = ap (λ (zs : List ℕ). getD (recall zs memo) k none) (lent-before a e work work′ A b f h i m)
 
+-- and so does one behind it
 pub recall-behind : (a e : ℕ) (work work′ : List ℕ) → Outside a e work work′ → (b f : ℕ) → b ≤ f → e ≤ b → f ≤ length work → (memo : Memo) (k : ℕ) → recallAt b f work′ memo k ≡ recallAt b f work memo k
 unfolding recallAt
 recall-behind a e work work′ A b f h i m memo k = ap (λ (zs : List ℕ). getD (recall zs memo) k none) (lent-behind a e work work′ A b f h i m)

@@ -59,10 +59,11 @@ left-in work words l st seen values ss vs M =
 
 -- ---- a turn
 module _ (P : Pack) (G : Proper P) (work words : List ℕ) (l : Instance) (st : Store) (seen values : Memo) (N : Patterns (nodes words st)) (p n top : ℕ) (ss vs : List Bound) (L : Left P work words l st seen values p n (suc top) ss vs) where
-  -- the pair that is taken, and the others
+  -- the pair that is taken
   abbrev pair : Pair
   pair = beside (leftWord work l top) (rightWord work l top)
 
+  -- the others
   abbrev others : List Pair
   others = pairsIn (l .pairs) work top
 

@@ -139,6 +139,7 @@ module _ (bytes work words : List ℕ) (c : Catalog) (l : Instance) (st : Store)
             fits = omega (arith, wider, H .order, H .fits, W .outside .long);
           }
         where
+          -- the same pack was read before
           back : (P : Pack) → Reads bytes (recordsOf mid c) P → Reads bytes (recordsOf work c) P
           back P R = reads-back bytes work mid c (outside-same work mid c (l .pairs) (l .end) (Q .given .apart) mid-outside) (Q .given .held .cataloged) P R
 

@@ -49,10 +49,11 @@ pub record Ready (bytes work words : List ℕ) (c : Catalog) (l : Instance) (st 
   pub bindings : List Bound
   pub left : Left (given .held .pack) work words l st seen values pattern ground (suc top) was bindings
 
--- the words of the pair behind the others
+-- the pattern of the pair behind the others
 abbrev pub leftWord : List ℕ → Instance → ℕ → ℕ
 leftWord work l top = getD work (l .pairs + 2 * top) 0
 
+-- and its ground node
 abbrev pub rightWord : List ℕ → Instance → ℕ → ℕ
 rightWord work l top = getD work (l .pairs + 2 * top + 1) 0
 

@@ -1,6 +1,6 @@
 -- Words of rows and stack written: the graph is held still, and what was read back is as it was; so it is when the store has grown.
 use mathlib.Core.Path.{_≡_, refl, sym, ap, _∙_, subst}
-use mathlib.Core.Bool.{Bool}
+use mathlib.Core.Bool.{Bool, true, false}
 use mathlib.Core.List.{List, [], _∷_}
 use Prim.Native.Nat.{ℕ, zero, suc, _+_, _-_, _≤_, _<_}
 use native.Mathlib.Omega.{arith}
@@ -10,7 +10,7 @@ use lib.Seq.{getD-set-other}
 use Rattle.definition.specs.Pack.{Pack}
 use Rattle.definition.specs.Verdict.{Bound}
 use Rattle.definition.specs.Graph.{Graph}
-use Rattle.theory.specs.Walks.Resolving.{Resolving}
+use Rattle.theory.specs.Walks.Resolving.{Resolving, right-fewer}
 use Rattle.base.specs.Part.{part, put, part-at, part-set, length-part, part-same, part-put, length-put, put-before, put-behind, put-at}
 use Rattle.base.specs.Probe.{taken}
 use Rattle.store.specs.declared.nodes.Store.{Store}
@@ -24,7 +24,7 @@ use Rattle.graph.specs.declared.graph.Graph.{Graph as Counts}
 use Rattle.graph.specs.Cells.{rowsEnd, Shows, nodes-few, rows-set, shows-rows}
 use Rattle.graph.specs.Links.{Found}
 use Rattle.resolve.specs.declared.words.Table.{Table}
-use Rattle.resolve.specs.Words.{valuesAt, patternsAt, numbersAt, tableEnd, tableIn, marksIn, Stands, Says, Lies, Holding, Framed, Moves}
+use Rattle.resolve.specs.Words.{valuesAt, patternsAt, numbersAt, tableEnd, tableIn, marksIn, Stands, Says, Fixes, Lies, Holding, Framed, Moves}
 use Rattle.resolve.specs.Kept.{lifts-on}
 
 -- a word of the table
@@ -219,3 +219,8 @@ module _ (cells work : List ℕ) (t : Table) (g : Counts) (room : t .at + tableE
     behind = λ i p. found-behind i (omega arith);
     shows = λ h S. subst (λ (table : List ℕ). Shows cells table g h) (sym found-table) (F .2 h S .1);
   }
+
+-- what was read back with all variables numbered stays so when only flexible ones are
+pub holding-fewer : (bytes work words cells : List ℕ) (c : Catalog) (l : Lifted) (t : Table) (st : Store) (g : Counts) (n : ℕ) (P : Pack) (h : Graph) (vs : List Bound) (s : Resolving)
+    → Holding bytes work words cells c l t st g n true P h vs s → Fixes h vs false s → Holding bytes work words cells c l t st g n false P h vs s
+holding-fewer bytes work words cells c l t st g n P h vs s H F = record { lies = H .lies; says = H .says; right = right-fewer P h vs s (H .right); fixes = F }

@@ -13,7 +13,7 @@ use Rattle.graph.specs.Cells.{markIn}
 use Rattle.unifier.specs.declared.Unification.{Unification}
 
 -- ---- reading
--- so many words the node ahead takes: a variable, a sort and two marks, or a head, a number of arguments and the arguments
+-- so many words the node ahead takes: a variable is the word for one, a sort and two marks, flexible and rigid; an application is a head, a number of arguments and these
 unfoldable pub wordsOf : List ℕ → ℕ
 wordsOf ws = elim (eqb (getD ws 0 0) variableHead) [ true ↦ 4 | false ↦ 2 + getD ws 1 0 ]
 
@@ -53,7 +53,7 @@ readNodes (suc k) room g (w ∷ ws) =
           elim (leb (cells h) room) [ false ↦ full | true ↦ readNodes k room h (drop (wordsOf (w ∷ ws)) (w ∷ ws)) ]
     ]
 
--- each takes a word or more
+-- all that the words hold: each node takes a word or more, so there are no more turns than words
 unfoldable pub listed : List ℕ → ℕ → Listed
 unfolding readNodes
 listed terms room = readNodes (length terms) room [] terms
@@ -79,6 +79,7 @@ unfoldable pub rootsTo : Graph → ℕ → List ℕ
 unfolding root upTo
 rootsTo g n = map (root g) (upTo n)
 
+-- whether, as a number
 abbrev pub bit : Bool → ℕ
 bit true = 1
 bit false = 0
@@ -88,7 +89,7 @@ unfoldable pub ended : Unified → ℕ → Told
 unfolding tells circular rootsTo
 ended u n = elim (u .graph) [ none ↦ tells 1 (u .taken) 0 [] n | some h ↦ tells 0 (u .taken) (bit (circular h)) (rootsTo h (length h)) n ]
 
--- both are nodes, and there is a place for each root
+-- both must be nodes, and there must be a place for each root
 unfoldable pub asked : Graph → ℕ → ℕ → ℕ → Told
 unfolding refused ended unify _and_
 asked g x y n =
@@ -97,17 +98,18 @@ asked g x y n =
       | true ↦ elim (leb (length g) n) [ false ↦ refused 3 n | true ↦ ended (unify g x y) n ]
     ]
 
--- too many cells, or fewer words of work than the graph's table, its pairs and its colours take
+-- 2^24 cells or more, or fewer words of work than the table, the pairs and the colours of as many nodes take
 unfoldable pub unfit : ℕ → ℕ → Bool
 unfit cells work = leb 16777216 cells || ltb work (8 * cells + 7)
 
--- of all that is read
+-- the same of whatever the list holds
 unfoldable pub askedOf : Listed → ℕ → ℕ → ℕ → Told
 unfolding refused asked
 askedOf (whole g) x y n = asked g x y n
 askedOf broken x y n = refused 2 n
 askedOf full x y n = refused 3 n
 
+-- what a call says: lengths are tested first, then the list is read, then the two nodes are looked for
 unfoldable pub solved : List ℕ → ℕ → ℕ → ℕ → ℕ → ℕ → Told
 unfolding unfit refused listed askedOf
 solved terms x y roots cells work = elim (unfit cells work) [ true ↦ refused 3 roots | false ↦ askedOf (listed terms cells) x y roots ]

@@ -35,12 +35,15 @@ pub record Roots (roots : List ℕ) (s : Counts) : Type 0 where
 abbrev pub Writes : List ℕ → List ℕ → List ℕ → Counts → ℕ → Type 0
 Writes cells work roots s n = (g : Graph) → Shows cells work s g → roots ≡ padded n (rootsTo g (length g))
 
+-- what is told of it, joined
 abbrev pub Joins : List ℕ → List ℕ → Counts → ℕ → Told → ℕ → Type 0
 Joins cells work s taken t n = (g : Graph) → Shows cells work s g → Inner g → t ≡ tells 0 taken (bit (circular g)) (rootsTo g (length g)) n
 
+-- what unification of two of its nodes comes to
 abbrev pub Solves : List ℕ → List ℕ → Counts → ℕ → ℕ → Told → ℕ → Type 0
 Solves cells work s x y t n = (g : Graph) → Shows cells work s g → Inner g → t ≡ ended (unify g x y) n
 
+-- and of any two numbers
 abbrev pub Asks : List ℕ → List ℕ → Counts → ℕ → ℕ → Told → ℕ → Type 0
 Asks cells work s x y t n = (g : Graph) → Shows cells work s g → Inner g → t ≡ asked g x y n
 
@@ -49,10 +52,12 @@ Asks cells work s x y t n = (g : Graph) → Shows cells work s g → Inner g →
 pub nodes-small : (cells work : List ℕ) (s : Counts) (g : Graph) → Shows cells work s g → s .nodes < 4294967295
 nodes-small cells work s g S = omega (arith, nodes-few cells work s (S .laid), S .laid .fits, S .laid .small)
 
+-- as many roots as nodes
 length-roots : (g : Graph) (n : ℕ) → length (rootsTo g n) ≡ n
 unfolding rootsTo
 length-roots g n = length-map (upTo n) (root g) ∙ length-upTo n
 
+-- one root more
 roots-more : (g : Graph) (n : ℕ) → rootsTo g (n + 1) ≡ rootsTo g n ++ (root g n ∷ [])
 unfolding rootsTo upTo
 roots-more g n = rw (add-one n) (map-append (root g) (upTo n) (n ∷ []))
@@ -90,9 +95,11 @@ written-all cells before work roots₀ roots s i Z e W g S =
     w .1 ∙ ap (λ (l : List ℕ). rootsTo g i ++ l) d ∙ ap (λ (k : ℕ). padded n (rootsTo g k)) q
 
 -- ---- what is told
+-- an answer and the roots as they stand
 abbrev pub Says : ℕ → ℕ → ℕ → List ℕ → Told
 Says code taken circular roots = record { answer = record { code = code; taken = taken; circular = circular }; roots = roots }
 
+-- the test for circles, and then the roots
 pub joins : (cells before work : List ℕ) (s : Counts) (taken : ℕ) (circle : Bool) (b : ℕ) (roots : List ℕ) (n : ℕ) → Tells cells before work s circle → b ≡ bit circle → Writes cells work roots s n → Joins cells before s taken (Says 0 taken b roots) n
 unfolding tells
 joins cells before work s taken circle b roots n T e W g S I =
@@ -101,6 +108,7 @@ joins cells before work s taken circle b roots n T e W g S I =
     let r : roots ≡ padded n (rootsTo g (length g)) = W g (t .1) in
     ap₂ (λ (k : ℕ) (l : List ℕ). Says 0 taken k l) c r
 
+-- joined, or a clash
 pub solves-joined : (cells before work : List ℕ) (s : Counts) (x y taken : ℕ) (t : Told) (n : ℕ) → Unifies cells before work s x y (Joined taken) → Joins cells work s taken t n → Solves cells before s x y t n
 unfolding ended
 solves-joined cells before work s x y taken t n U J g S I =
@@ -116,6 +124,7 @@ pub solves-clash : (cells before work roots : List ℕ) (s : Counts) (x y taken 
 unfolding ended
 solves-clash cells before work roots s x y taken U z g S I = nothing-told 1 taken roots z ∙ sym (ap (λ (v : Unified). ended v (length roots)) (U .0 g S I))
 
+-- a refusal
 pub refusal-told : (code : ℕ) (r : Unification) (roots : List ℕ) → r ≡ record { code = code; taken = 0; circular = 0 } → roots ≡ replicate (length roots) 0 → _≡_ {A = Told} (record { answer = r; roots = roots }) (refused code (length roots))
 unfolding refused
 refusal-told code r roots e z = ap {B = Told} (λ (a : Unification). record { answer = a; roots = roots }) e ∙ nothing-told code 0 roots z
@@ -141,6 +150,7 @@ module _ (cells work : List ℕ) (s : Counts) (x y : ℕ) (t : Told) (n : ℕ) w
       asks-solves h W g S I = let m = many-nodes cells work s g S in W g S I ∙ (rw (asked, lt-ltb x (length g) (omega arith), lt-ltb y (length g) (omega arith), _and_, le-leb (length g) n (omega arith)))
 
 -- ---- the lengths
+-- which of the two tests says it
 pub unfit-long : (cells work : ℕ) → 16777216 ≤ cells → unfit cells work ≡ true
 unfolding unfit
 unfit-long cells work h = rw (le-leb 16777216 cells h)
@@ -149,6 +159,7 @@ pub unfit-work : (cells work : ℕ) → cells < 16777216 → unfit cells work �
 unfolding unfit
 unfit-work cells work h = rw (lt-leb 16777216 cells h)
 
+-- lengths that fit are what the graph asks for
 pub fit : (cells work : List ℕ) → unfit (length cells) (length work) ≡ false → (coloursEnd cells ≤ length work) × (length cells < 4294967295)
 fit cells work e = elim (see (leb 16777216 (length cells))) [
   | is true t ↦ never (let z : true ≡ false = sym (unfit-long (length cells) (length work) (leb-true _ _ t)) ∙ e in cc)
@@ -185,6 +196,7 @@ module _ (terms : List ℕ) (x y roots cells work : ℕ) (t : Told) where
 pub zeros-all : (n : ℕ) (xs : List ℕ) → xs ≡ replicate n 0 → xs ≡ replicate (length xs) 0
 zeros-all n xs e = e ∙ ap (λ (k : ℕ). replicate k 0) (sym (length-replicate n 0) ∙ ap length (sym e))
 
+-- what is told, and zeros in cells and work
 pub all-left : (terms : List ℕ) (x y n m : ℕ) (r : Unification) (cells work roots cells₁ work₁ cells₂ work₂ : List ℕ) → m ≡ n → length cells₁ ≡ length cells → length work₁ ≡ length work
     → _≡_ {A = Told} (record { answer = r; roots = roots }) (solved terms x y m (length cells) (length work)) → cells₂ ≡ replicate (length cells₁) 0 → work₂ ≡ replicate (length work₁) 0
     → _≡_ {A = Left} (record { answer = r; roots = roots; cells = cells₂; work = work₂ }) (leaves terms x y n (length cells) (length work))

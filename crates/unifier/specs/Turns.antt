@@ -50,6 +50,7 @@ Reads terms cells work NoList = listed terms (length cells) ≡ broken
 Reads terms cells work NoRoom = listed terms (length cells) ≡ full
 
 -- ---- earlier nodes
+-- none, one that is not, one that is, and all of them
 pub earlier-none : (n : ℕ) → earlier n [] ≡ true
 unfolding earlier all
 earlier-none n = refl
@@ -65,12 +66,14 @@ earlier-next n xs i h l = rw (drop-cons xs i 0 h, add-one i, earlier, all, lt-lt
 pub earlier-end : (n : ℕ) (xs : List ℕ) (i : ℕ) → length xs ≤ i → earlier n (drop i xs) ≡ true
 earlier-end n xs i h = ap (earlier n) (drop-of-length-le xs h) ∙ earlier-none n
 
+-- as the graph's laws have it
 pub earlier-below : (n : ℕ) (xs : List ℕ) → earlier n xs ≡ true → Below n xs
 unfolding earlier all
 earlier-below n [] e = tt
 earlier-below n (x ∷ xs) e = let p = and-parts (ltb x n) (all (λ a. ltb a n) xs) e in (ltb-true x n (p .0), earlier-below n xs (p .1))
 
 -- ---- one node read
+-- nothing is left, the words are no node, there is no room for it, or it is read
 module _ (k room : ℕ) (g : Graph) where
   read-none : readNodes k room g [] ≡ whole g
   unfolding readNodes
@@ -147,11 +150,13 @@ module _ (terms : List ℕ) (at : ℕ) where
   all-words n h = let f : wordsOf (drop at terms) ≤ length (drop at terms) = omega (arith, long) in rw (isNode, le-leb _ _ f, _and_)
 
 -- ---- turns
+-- ahead of the first
 pub begun : (terms cells work : List ℕ) (s : Counts) → Shows cells work s [] → Reading terms cells work s 0
 unfolding listed
 begun terms cells work s S = record { graph = []; shows = S; inner = λ x l. absurd (omega arith); within = omega arith; fuel = length terms; enough = omega arith; left = refl }
 
 module _ (terms cells work : List ℕ) (s : Counts) (at : ℕ) (R : Reading terms cells work s at) where
+  -- behind the last
   pub ended-there : length terms ≤ at → Reads terms cells work (Whole s)
   ended-there h = (
     R .graph,

@@ -8,13 +8,13 @@ use std::collections::HashMap;
 /// many pairs were taken, and 1 if there is a circle.
 #[repr(C)]
 #[derive(Clone, Copy, Debug, PartialEq, Eq)]
-struct Unification {
-    code: u64,
+pub struct Unification {
+    pub code: u64,
     taken: u64,
     circular: u64,
 }
 
-const JOINED: u64 = 0;
+pub const JOINED: u64 = 0;
 const CLASH: u64 = 1;
 const LIST: u64 = 2;
 const LENGTHS: u64 = 3;
@@ -52,7 +52,7 @@ const FREE: Node = Node::Var {
 };
 
 /// The words that stand for nodes.
-fn words(nodes: &[Node]) -> Vec<u32> {
+pub fn words(nodes: &[Node]) -> Vec<u32> {
     let mut words = Vec::new();
     for node in nodes {
         match node {
@@ -79,14 +79,14 @@ fn cells(nodes: &[Node]) -> usize {
 
 /// The lengths lent in one call.
 #[derive(Clone, Copy)]
-struct Lent {
+pub struct Lent {
     roots: usize,
     cells: usize,
     work: usize,
 }
 
 impl Lent {
-    fn exact(nodes: &[Node]) -> Self {
+    pub fn exact(nodes: &[Node]) -> Self {
         let cells = cells(nodes);
         Lent {
             roots: nodes.len(),
@@ -97,7 +97,7 @@ impl Lent {
 }
 
 /// One call; cells and work must come back as zeros, and roots too unless it is joined.
-fn call(terms: &[u32], x: u64, y: u64, lent: Lent) -> Result<(Unification, Vec<u32>), String> {
+pub fn call(terms: &[u32], x: u64, y: u64, lent: Lent) -> Result<(Unification, Vec<u32>), String> {
     let mut roots = vec![JUNK; lent.roots];
     let mut cells = vec![JUNK; lent.cells];
     let mut work = vec![JUNK; lent.work];
@@ -134,14 +134,14 @@ pub fn check() -> Result<String, String> {
     ))
 }
 
-/// Two terms as printed, and what becomes of variables: none after a clash, no pairs of
-/// one but for a circle.
+/// Two terms as printed, and what becomes of them.
 struct Example {
     left: &'static str,
     right: &'static str,
     outcome: Outcome,
 }
 
+/// The values of variables, that there are none, or that some have no end.
 enum Outcome {
     Joined(&'static [(&'static str, &'static str)]),
     Clash,
@@ -149,9 +149,9 @@ enum Outcome {
 }
 use Outcome::{Circle, Clash, Joined};
 
-/// Chang and Lee, Symbolic Logic and Mechanical Theorem Proving (1973), 5.4, two; Martelli
-/// and Montanari, An Efficient Unification Algorithm (1982), its example; and the pairs by
-/// which Robinson's test for a variable inside its own term is explained.
+/// Two of Chang and Lee, Symbolic Logic and Mechanical Theorem Proving (1973), on
+/// unification; the one of Martelli and Montanari, An Efficient Unification Algorithm
+/// (1982); and pairs that only Robinson's test of a variable inside its own term tells apart.
 const EXAMPLES: [Example; 6] = [
     Example {
         left: "P(a,x,f(g(y)))",

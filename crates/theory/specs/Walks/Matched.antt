@@ -35,11 +35,12 @@ assigned-agrees P t vs k m e = rw (e, assigned)
 over : Tree → Tree
 over t = tree 0 (tree-then t no-trees)
 
--- how many nodes a tree has, and trees
 mutual
+  -- how many nodes a tree has
   height : Tree → ℕ
   height (tree h ts) = suc (heights ts)
 
+  -- and trees
   heights : Trees → ℕ
   heights no-trees = 0
   heights (tree-then t ts) = height t + heights ts
