@@ -57,7 +57,7 @@ bench: the library beside the Rust original
                           the same with wrong steps and goals, and written packs in
                           the library; check the answers beside the recorded ones,
                           certpack's and document 01's, and that work is cleared
-  bench unify             unify published pairs of terms and drawn ones in the library;
+  bench unify             unify written pairs of terms and drawn ones in the library;
                           check what comes back beside a plain unifier, and beside the
                           original where it is in the build
   bench --help            this page

@@ -1,4 +1,4 @@
-//! The library's unification alone: published examples, drawn terms beside a plain
+//! The library's unification alone: examples, published ones among them, drawn terms beside a plain
 //! recursive unifier and, in a build that has it, the original's; and calls that it refuses.
 use crate::numbers::Numbers;
 use crate::ours::zeros;
@@ -125,12 +125,12 @@ pub fn call(terms: &[u32], x: u64, y: u64, lent: Lent) -> Result<(Unification, V
 }
 
 pub fn check() -> Result<String, String> {
-    let examples = published()?;
+    let examples = written()?;
     shared()?;
     refusals()?;
     let drawn = drawn()?;
     Ok(format!(
-        "{examples} published pairs and {drawn} drawn ones unified\n"
+        "{examples} written pairs and {drawn} drawn ones unified\n"
     ))
 }
 
@@ -258,7 +258,7 @@ impl Printed {
     }
 }
 
-fn published() -> Result<usize, String> {
+fn written() -> Result<usize, String> {
     for example in &EXAMPLES {
         let at = |why: String| format!("{} and {}: {why}", example.left, example.right);
         let mut terms = Printed::default();
