@@ -1,5 +1,6 @@
 -- Laws of bytes in lent buffers.
 pub mod Part
+pub mod Outside
 pub mod Listed
 pub mod Hash
 pub mod Probe

@@ -232,6 +232,6 @@ module _ (work cells : List ℕ) (t : Table) (g : Counts) (room : t .at + tableE
       lies = lies-same bytes work words cells c l t st g P h vs L after long ahead;
       says = record { store = refl; numbering = refl; memo = λ r. sym (no-mark r); known = λ r k e. never (cc); most = omega arith };
       right = right-none P h vs everyone (numberedAs [] (nodes words st));
-      fixes = F;
+      grounded = F;
     };
   }

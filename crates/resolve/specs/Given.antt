@@ -1,6 +1,6 @@
 -- A variable read back by its number or by its value, and an application over its arguments.
 use mathlib.Core.Path.{_≡_, refl, sym, ap, ap₂, _∙_}
-use mathlib.Core.Bool.{Bool, true, false}
+use mathlib.Core.Bool.{Bool, true, false, _||_}
 use mathlib.Core.List.{List, [], _∷_, _++_, map}
 use mathlib.Core.Option.{none, some}
 use Prim.Native.Nat.{ℕ, zero, suc, _+_, _*_, _-_, _≤_, _<_}
@@ -17,7 +17,7 @@ use Rattle.definition.specs.Graph.{Graph, vertex, root}
 use Rattle.definition.specs.Analysis.{copied, lift, ResolvedOne, numberOf, resolveVariable, resolveAt}
 use Rattle.theory.specs.Unification.Forest.{root-inside}
 use Rattle.theory.specs.Walks.Again.{stored, headed}
-use Rattle.theory.specs.Walks.Memo.{has, has-value}
+use Rattle.theory.specs.Walks.Memo.{has}
 use Rattle.theory.specs.Walks.Reading.{numberedAs, resolvedOne}
 use Rattle.theory.specs.Walks.Resolving.{Resolving, isRead}
 use Rattle.base.specs.Part.{part, part-at, length-part}
@@ -39,6 +39,11 @@ use Rattle.resolve.specs.Moved.{taken-most, table-at, table-long, nodes-
 use Rattle.resolve.specs.Asked.{graph-long, sort-of}
 use Rattle.resolve.specs.Keys.{patternOf}
 use Rattle.resolve.specs.Roots.{Open, Named, Fixed, Applied, readsAs, Given}
+
+-- where neither of two holds the first does not
+or-left : (a b : Bool) → (a || b) ≡ false → a ≡ false
+or-left true b e = e
+or-left false b e = refl
 
 -- ---- what the words say of a root
 -- a root has a word in the table that says whether it was read back
@@ -146,13 +151,23 @@ module _ (bytes work words cells : List ℕ) (c : Catalog) (l : Lifted) (t : Tab
         let i : intern (s .state .store) (variableNode (length (s .state .numbering)) (vertex h x .sort)) ≡ stored p s′ = ap₂ intern (H .says .store) m ∙ e in
         rw (N .0, resolveAt, number-none, resolveVariable, N .1) (ap (λ (o : Placing). resolvedOne (o .number) (numberedAs (s .state .numbering ++ (x ∷ [])) (o .store))) i)
 
-    -- the word of a variable that is fixed says its ground value
-    pub value-said : Fixed everyone x h → getD table (valuesAt cells + x) 0 ≡ suc (copied vs x)
-    value-said F = H .lies .stands .values x node-given ∙ ap wordOf (has-value vs x (H .fixes x (O .node) (O .root) (F .0) (F .1) (O .unread)))
+    -- the word of a variable that is fixed says its ground value, or 0
+    pub value-said : getD table (valuesAt cells + x) 0 - 1 ≡ copied vs x
+    unfolding copied
+    value-said =
+        let w = H .lies .stands .values x node-given in
+        elim (see (valueOf x vs)) [
+          | is none e ↦ rw (e, copied) (let v = w ∙ ap wordOf e in omega arith)
+          | is (some m) e ↦ rw (e, copied) (let v = w ∙ ap wordOf e in omega arith)
+        ]
 
     -- which is a ground node
     pub value-below : Fixed everyone x h → copied vs x < l .nodes
-    value-below F = H .lies .below x (copied vs x) (has-value vs x (H .fixes x (O .node) (O .root) (F .0) (F .1) (O .unread)))
+    unfolding copied
+    value-below F = elim (see (valueOf x vs)) [
+      | is none e ↦ rw (e, copied) (H .grounded (or-left everyone (vertex h x .flex) (F .1)))
+      | is (some m) e ↦ rw (e, copied) (H .lies .below x m e)
+    ]
 
     -- what it is read back as
     pub valued-is : Fixed everyone x h → (m : ℕ) → m ≡ copied vs x → (p : ℕ) (s′ : List Node) → lift (treeOf P m) (nodes words st) ≡ stored p s′

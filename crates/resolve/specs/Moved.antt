@@ -24,7 +24,7 @@ use Rattle.graph.specs.declared.graph.Graph.{Graph as Counts}
 use Rattle.graph.specs.Cells.{rowsEnd, Shows, nodes-few, rows-set, shows-rows}
 use Rattle.graph.specs.Links.{Found}
 use Rattle.resolve.specs.declared.words.Table.{Table}
-use Rattle.resolve.specs.Words.{valuesAt, patternsAt, numbersAt, tableEnd, tableIn, marksIn, Stands, Says, Fixes, Lies, Holding, Framed, Moves}
+use Rattle.resolve.specs.Words.{valuesAt, patternsAt, numbersAt, tableEnd, tableIn, marksIn, Stands, Says, Lies, Holding, Framed, Moves}
 use Rattle.resolve.specs.Kept.{lifts-on}
 
 -- a word of the table
@@ -125,7 +125,7 @@ module _ (bytes work words cells : List ℕ) (c : Catalog) (l : Lifted) (t : Tab
     says = says-same cells (tableIn t work) (tableIn t work′) words g st n s (table-room P h vs (H .lies)) (table-kept P h vs (H .lies)) (nodes-most cells (tableIn t work) g h vs (H .lies .stands))
         (λ i p q. moved-words P h vs (H .lies) i (omega arith) q) (H .says);
     right = H .right;
-    fixes = H .fixes;
+    grounded = H .grounded;
   }
 
 -- ---- lifting's words
@@ -222,5 +222,5 @@ module _ (cells work : List ℕ) (t : Table) (g : Counts) (room : t .at + tableE
 
 -- what was read back with all variables numbered stays so when only flexible ones are
 pub holding-fewer : (bytes work words cells : List ℕ) (c : Catalog) (l : Lifted) (t : Table) (st : Store) (g : Counts) (n : ℕ) (P : Pack) (h : Graph) (vs : List Bound) (s : Resolving)
-    → Holding bytes work words cells c l t st g n true P h vs s → Fixes h vs false s → Holding bytes work words cells c l t st g n false P h vs s
-holding-fewer bytes work words cells c l t st g n P h vs s H F = record { lies = H .lies; says = H .says; right = right-fewer P h vs s (H .right); fixes = F }
+    → Holding bytes work words cells c l t st g n true P h vs s → 0 < l .nodes → Holding bytes work words cells c l t st g n false P h vs s
+holding-fewer bytes work words cells c l t st g n P h vs s H F = record { lies = H .lies; says = H .says; right = right-fewer P h vs s (H .right); grounded = λ e. F }

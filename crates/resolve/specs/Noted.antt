@@ -131,10 +131,7 @@ module _ (bytes work words cells : List ℕ) (c : Catalog) (l : Lifted) (t : Tab
             omega (arith, G .count, H .says .most);
       };
       right = right-root P h vs everyone x s (O .ripe) (H .right);
-      fixes = λ y a b v f u. elim (ℕ-discrete y x) [
-        | yes q ↦ let z : true ≡ false = sym (ap (isRead (readRoot P h vs everyone x s)) q ∙ read-made P h vs everyone x s) ∙ u in never (cc)
-        | no d ↦ H .fixes y a b v f (sym (read-others P h vs everyone x y s (λ q. d (sym q))) ∙ u)
-      ];
+      grounded = H .grounded;
     }
 
     -- the stack is as it was

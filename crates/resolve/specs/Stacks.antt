@@ -27,7 +27,7 @@ use Rattle.resolve.specs.declared.root.Resolved.{Resolved}
 use Rattle.resolve.specs.declared.root.Resolved.the-variants as read
 use Rattle.resolve.specs.declared.walk.Turn.{Turn}
 use Rattle.resolve.specs.declared.walk.Turn.the-variants as turns
-use Rattle.resolve.specs.Words.{patternsAt, tableIn, Fixes, Lies, Holding, Framed, Moves}
+use Rattle.resolve.specs.Words.{patternsAt, tableIn, Grounded, Lies, Holding, Framed, Moves}
 use Rattle.resolve.specs.Asked.{Arguing}
 
 -- a forest whose nodes have nodes as arguments, without circles
@@ -101,7 +101,7 @@ pub record Clears (work work′ cells : List ℕ) (t : Table) (g : Counts) : Typ
   pub ahead : (i : ℕ) → i < t .at + patternsAt cells → getD work′ i 0 ≡ getD work i 0
   pub behind : (i : ℕ) → t .at + patternsAt cells + g .nodes ≤ i → getD work′ i 0 ≡ getD work i 0
   pub holding : (bytes words : List ℕ) (c : Catalog) (l : Lifted) (st : Store) (everyone : Bool) (P : Pack) (h : Graph) (vs : List Bound) → Lies bytes work words cells c l t st g P h vs
-      → Fixes h vs everyone (resolving (numberedAs [] (nodes words st)) []) → Holding bytes work′ words cells c l t st g 0 everyone P h vs (resolving (numberedAs [] (nodes words st)) [])
+      → Grounded everyone l → Holding bytes work′ words cells c l t st g 0 everyone P h vs (resolving (numberedAs [] (nodes words st)) [])
 
 -- what `resolve` answers: the definition's pattern and state, with the store's words written; or short, when these words are more than there are
 abbrev pub Answers : List ℕ → List ℕ → List ℕ → List ℕ → List ℕ → List ℕ → Catalog → Lifted → Table → Store → Counts → ℕ → Bool → ℕ → Resolved → Type 0

@@ -143,41 +143,37 @@ module _ (bytes work words cells : List ℕ) (c : Catalog) (l : Lifted) (t : Tab
           )
 
   -- ---- by a value
-  module _ (K : Opening bytes work words cells c l t st g n everyone x (Fixed everyone x)) (w : ℕ) (q : w ≡ getD (tableIn t work) (valuesAt cells + x) 0) where
-    -- its word says something
-    pub value-some : 0 < w
-    value-some = omega (arith, q, value-said bytes work words cells c l t st g n everyone x (K .pack) (K .graph) (K .values) (K .state) (K .holding) (K .opened) (K .asked))
-
+  module _ (K : Opening bytes work words cells c l t st g n everyone x (Fixed everyone x)) (m : ℕ) (q : m ≡ getD (tableIn t work) (valuesAt cells + x) 0 - 1) where
     -- a ground node
-    pub value-ground : w - 1 < l .nodes
+    pub value-ground : m < l .nodes
     value-ground =
-        let v = value-said bytes work words cells c l t st g n everyone x (K .pack) (K .graph) (K .values) (K .state) (K .holding) (K .opened) (K .asked) in
+        let v = value-said bytes work words cells c l t st g n everyone x (K .pack) (K .graph) (K .values) (K .state) (K .holding) (K .opened) in
         omega (arith, q, value-below bytes work words cells c l t st g n everyone x (K .pack) (K .graph) (K .values) (K .state) (K .holding) (K .opened) (K .asked))
 
     -- which is the definition's
-    value-is : (P : Pack) (h : Graph) (vs : List Bound) (s : Resolving) → Holding bytes work words cells c l t st g n everyone P h vs s → Open h s x → Fixed everyone x h → w - 1 ≡ copied vs x
-    value-is P h vs s H O F = omega (arith, q, value-said bytes work words cells c l t st g n everyone x P h vs s H O F)
+    value-is : (P : Pack) (h : Graph) (vs : List Bound) (s : Resolving) → Holding bytes work words cells c l t st g n everyone P h vs s → Open h s x → Fixed everyone x h → m ≡ copied vs x
+    value-is P h vs s H O F = q ∙ value-said bytes work words cells c l t st g n everyone x P h vs s H O
 
     module _ (work′ words′ : List ℕ) where
       -- there is no room for it
-      pub value-short : Answers bytes work words work′ words′ c l st (w - 1) Short → Gives bytes work words work′ words′ cells c l t st g n everyone x (Fixed everyone x) read.Short
+      pub value-short : Answers bytes work words work′ words′ c l st m Short → Gives bytes work words work′ words′ cells c l t st g n everyone x (Fixed everyone x) read.Short
       value-short A = (
         framed-apart bytes work words cells c l t st g (K .pack) (K .graph) (K .values) (K .holding .lies) work′ words′ st (A .1),
         λ P h vs s H O F.
-            let o = lift (treeOf P (w - 1)) (nodes words st) in
-            let e = valued-is bytes work words cells c l t st g n everyone x P h vs s H O F (w - 1) (value-is P h vs s H O F) (o .number) (o .store) refl in
+            let o = lift (treeOf P m) (nodes words st) in
+            let e = valued-is bytes work words cells c l t st g n everyone x P h vs s H O F m (value-is P h vs s H O F) (o .number) (o .store) refl in
             subst (λ (u : List Node). length words < length (patternWords u)) (sym (ap (λ (y : ResolvedOne). y .state .store) e)) (A .0 P (H .lies .reads) (H .lies .proper)),
       )
 
       -- it is lifted
-      pub value-gives : (p : Pattern) (st′ : Store) → Answers bytes work words work′ words′ c l st (w - 1) (Id p st′) → Gives bytes work words work′ words′ cells c l t st g n everyone x (Fixed everyone x) (read.Read p st′ n)
+      pub value-gives : (p : Pattern) (st′ : Store) → Answers bytes work words work′ words′ c l st m (Id p st′) → Gives bytes work words work′ words′ cells c l t st g n everyone x (Fixed everyone x) (read.Read p st′ n)
       value-gives p st′ A = (
         framed-apart bytes work words cells c l t st g (K .pack) (K .graph) (K .values) (K .holding .lies) work′ words′ st′ (A .3),
         A .2,
         λ P h vs s H O F.
             let a = A .1 P (H .lies .reads) (H .lies .proper) in
-            let e = valued-is bytes work words cells c l t st g n everyone x P h vs s H O F (w - 1) (value-is P h vs s H O F) (p .0) (nodes words′ st′) a in
-            let i = lifted (treeOf P (w - 1)) (nodes words st) .within in
+            let e = valued-is bytes work words cells c l t st g n everyone x P h vs s H O F m (value-is P h vs s H O F) (p .0) (nodes words′ st′) a in
+            let i = lifted (treeOf P m) (nodes words st) .within in
             given-same bytes work words cells c l t st g n everyone x P h vs s H O work work′ words′ st′ (p .0) H (λ j y z. refl) (A .3) (A .0) e (rw a at i),
       )
 

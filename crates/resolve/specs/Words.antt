@@ -1,15 +1,14 @@
 -- What the words of work say of a graph, of its nodes' ground values, and of what was read back.
 use mathlib.Core.Path.{_≡_}
-use mathlib.Core.Bool.{Bool, true, false, _||_}
+use mathlib.Core.Bool.{Bool, true, false}
 use mathlib.Core.List.{List}
 use mathlib.Core.Option.{Option, none, some}
 use Prim.Native.Nat.{ℕ, suc, _+_, _*_, _-_, _≤_, _<_}
 use lib.ListN.{length, getD, take, drop}
 use Rattle.definition.specs.Pack.{Pack}
 use Rattle.definition.specs.Verdict.{Bound, valueOf}
-use Rattle.definition.specs.Graph.{Graph, vertex, isVar, circular}
+use Rattle.definition.specs.Graph.{Graph, vertex, circular}
 use Rattle.definition.specs.Analysis.{numberOf}
-use Rattle.theory.specs.Walks.Memo.{has}
 use Rattle.theory.specs.Walks.Levels.{Inner}
 use Rattle.theory.specs.Walks.Resolving.{Resolving, isRead, Right}
 use Rattle.base.specs.Part.{part}
@@ -71,9 +70,9 @@ pub record Says (cells table words : List ℕ) (g : Counts) (st : Store) (n : �
   pub known : (r k : ℕ) → numberOf r (s .state .numbering) 0 ≡ some k → isRead s r ≡ true
   pub most : n ≤ taken (marksIn cells table g)
 
--- a root that is read back by its ground value has one
-abbrev pub Fixes : Graph → List Bound → Bool → Resolving → Type 0
-Fixes h vs everyone s = (x : ℕ) → x < length h → vertex h x .link ≡ none → isVar (vertex h x) ≡ true → (everyone || vertex h x .flex) ≡ false → isRead s x ≡ false → has vs x ≡ true
+-- where some are read back by their ground values there is a ground node: a variable without a value stands for the first
+abbrev pub Grounded : Bool → Lifted → Type 0
+Grounded everyone l = everyone ≡ false → 0 < l .nodes
 
 -- work holds a pack, behind it the words of lifting, behind these the graph's table, with values that are ground nodes
 pub record Lies (bytes work words cells : List ℕ) (c : Catalog) (l : Lifted) (t : Table) (st : Store) (g : Counts) (P : Pack) (h : Graph) (vs : List Bound) : Type 0 where
@@ -91,7 +90,7 @@ pub record Holding (bytes work words cells : List ℕ) (c : Catalog) (l : Lifted
   pub lies : Lies bytes work words cells c l t st g P h vs
   pub says : Says cells (tableIn t work) words g st n s
   pub right : Right P h vs everyone s
-  pub fixes : Fixes h vs everyone s
+  pub grounded : Grounded everyone l
 
 -- there is such a pack, graph, values and state
 pub record Ready (bytes work words cells : List ℕ) (c : Catalog) (l : Lifted) (t : Table) (st : Store) (g : Counts) (n : ℕ) (everyone : Bool) : Type 0 where

@@ -4,6 +4,7 @@ use crate::words::intern_key;
 use crate::words::key_of;
 use crate::words::numbers;
 use crate::words::put_word;
+use crate::words::said;
 use crate::words::word_at;
 use base::id::Ground;
 use base::id::Node;
@@ -50,7 +51,7 @@ fn read_number(
     }
 }
 
-// Variable `x` by its ground value.
+// Variable `x` by its ground value; one without a value, which nothing asks for, by the first ground node.
 fn read_value(
     pack: &[u8],
     work: &mut [u32],
@@ -66,7 +67,7 @@ fn read_value(
     requires { ⌜ Valuing (now pack) (now work) (now words) (now cells) c l t st numbered (x .0) ⌝ }
     ensures { λ r. ⌜ Values (now (pack .entry)) (now (work .entry)) (now (words .entry)) (now (work .exit)) (now (words .exit)) (now (cells .entry)) c l t st numbered (x .0) r ⌝ }
 {
-    let value = word_at(work, t, 8 * cells.len() + 7 + x.0 as usize) - 1;
+    let value = said(word_at(work, t, 8 * cells.len() + 7 + x.0 as usize));
     match lift(pack, work, words, c, l, st, Ground(value)) {
         Interned::Id(p, more) => Resolved::Read(p, more, numbered),
         Interned::Short => Resolved::Short,

@@ -7,7 +7,7 @@ use lift::walk::Lifted;
 use store::nodes::Interned;
 use store::nodes::Store;
 ghost use mathlib.Core.Path.{_≡_};
-ghost use Prim.Native.Nat.{_+_, _≤_, _<_};
+ghost use Prim.Native.Nat.{_+_, _-_, _≤_, _<_};
 ghost use lib.ListN.{length, getD, set};
 ghost use Rattle.resolve.specs.Words.{tableIn};
 ghost use Rattle.resolve.specs.Kept.{Indexed, Interns};
@@ -37,6 +37,16 @@ pub fn put_word(work: &mut [u32], t: Table, i: usize, v: u32)
 {
     let at = t.at + i;
     work[at] = v;
+}
+
+// The number that a word says; 0 where it says none.
+pub fn said(word: u32) -> u32
+    ensures { λ r. ⌜ r ≡ word - 1 ⌝ }
+{
+    if word == 0 {
+        return 0;
+    }
+    word - 1
 }
 
 // The node of `key` in the store: its number, and the store that has it; or that there is no room for it.

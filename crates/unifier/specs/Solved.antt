@@ -84,18 +84,28 @@ abbrev pub bit : Bool → ℕ
 bit true = 1
 bit false = 0
 
--- joined, with the roots and whether there is a circle, or a clash
-unfoldable pub ended : Unified → ℕ → Told
+-- how far a call goes: at 0 nothing is unified
+unfoldable pub unifiedAt : ℕ → Graph → ℕ → ℕ → Unified
+unfolding unify
+unifiedAt stage g x y = elim (eqb stage 0) [ true ↦ record { graph = some g; taken = 0 } | false ↦ unify g x y ]
+
+-- from 2 on what is joined is tested for circles and its roots are told
+unfoldable pub joinedAt : ℕ → ℕ → Graph → ℕ → Told
 unfolding tells circular rootsTo
-ended u n = elim (u .graph) [ none ↦ tells 1 (u .taken) 0 [] n | some h ↦ tells 0 (u .taken) (bit (circular h)) (rootsTo h (length h)) n ]
+joinedAt stage taken h n = elim (leb 2 stage) [ true ↦ tells 0 taken (bit (circular h)) (rootsTo h (length h)) n | false ↦ tells 0 taken 0 [] n ]
+
+-- joined, or a clash
+unfoldable pub ended : ℕ → Unified → ℕ → Told
+unfolding tells joinedAt
+ended stage u n = elim (u .graph) [ none ↦ tells 1 (u .taken) 0 [] n | some h ↦ joinedAt stage (u .taken) h n ]
 
 -- both must be nodes, and there must be a place for each root
-unfoldable pub asked : Graph → ℕ → ℕ → ℕ → Told
-unfolding refused ended unify _and_
-asked g x y n =
+unfoldable pub asked : Graph → ℕ → ℕ → ℕ → ℕ → Told
+unfolding refused ended unifiedAt _and_
+asked g x y stage n =
     elim (ltb x (length g) and ltb y (length g)) [
       | false ↦ refused 2 n
-      | true ↦ elim (leb (length g) n) [ false ↦ refused 3 n | true ↦ ended (unify g x y) n ]
+      | true ↦ elim (leb (length g) n) [ false ↦ refused 3 n | true ↦ ended stage (unifiedAt stage g x y) n ]
     ]
 
 -- 2^24 cells or more, or fewer words of work than the table, the pairs and the colours of as many nodes take
@@ -103,16 +113,16 @@ unfoldable pub unfit : ℕ → ℕ → Bool
 unfit cells work = leb 16777216 cells || ltb work (8 * cells + 7)
 
 -- the same of whatever the list holds
-unfoldable pub askedOf : Listed → ℕ → ℕ → ℕ → Told
+unfoldable pub askedOf : Listed → ℕ → ℕ → ℕ → ℕ → Told
 unfolding refused asked
-askedOf (whole g) x y n = asked g x y n
-askedOf broken x y n = refused 2 n
-askedOf full x y n = refused 3 n
+askedOf (whole g) x y stage n = asked g x y stage n
+askedOf broken x y stage n = refused 2 n
+askedOf full x y stage n = refused 3 n
 
 -- what a call says: lengths are tested first, then the list is read, then the two nodes are looked for
-unfoldable pub solved : List ℕ → ℕ → ℕ → ℕ → ℕ → ℕ → Told
+unfoldable pub solved : List ℕ → ℕ → ℕ → ℕ → ℕ → ℕ → ℕ → Told
 unfolding unfit refused listed askedOf
-solved terms x y roots cells work = elim (unfit cells work) [ true ↦ refused 3 roots | false ↦ askedOf (listed terms cells) x y roots ]
+solved terms x y stage roots cells work = elim (unfit cells work) [ true ↦ refused 3 roots | false ↦ askedOf (listed terms cells) x y stage roots ]
 
 -- a call's answer and its three buffers
 pub record Left : Type 0 where
@@ -122,8 +132,8 @@ pub record Left : Type 0 where
   pub work : List ℕ
 
 -- what a call leaves, by what it reads and the three lengths lent
-unfoldable pub leaves : List ℕ → ℕ → ℕ → ℕ → ℕ → ℕ → Left
+unfoldable pub leaves : List ℕ → ℕ → ℕ → ℕ → ℕ → ℕ → ℕ → Left
 unfolding solved
-leaves terms x y roots cells work =
-    let t = solved terms x y roots cells work in
+leaves terms x y stage roots cells work =
+    let t = solved terms x y stage roots cells work in
     record { answer = t .answer; roots = t .roots; cells = replicate cells 0; work = replicate work 0 }

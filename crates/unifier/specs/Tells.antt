@@ -1,11 +1,12 @@
 -- Answering: what the functions owe to each other, and the laws of the roots written and of what is told.
-use mathlib.Core.Path.{_≡_, sym, ap, ap₂, _∙_}
+use mathlib.Core.Path.{_≡_, refl, sym, ap, ap₂, _∙_}
 use mathlib.Core.Bool.{Bool, true, false}
 use mathlib.Core.List.{List, [], _∷_, _++_, map-append}
+use mathlib.Core.Option.{some}
 use Prim.Native.Nat.{ℕ, zero, suc, _+_, _*_, _-_, _≤_, _<_}
 use native.Mathlib.Omega.{arith}
 use native.Mathlib.Numerals.{add-one}
-use borrow.Author.Tests.{lt-ltb, le-ltb, le-leb, lt-leb, leb-true, leb-false, ltb-false}
+use borrow.Author.Tests.{lt-ltb, le-ltb, le-leb, lt-leb, leb-true, leb-false, ltb-false, ne-eqb}
 use lib.Dec.{leb, ltb}
 use lib.ListN.{length, drop, set, replicate, length-map, length-replicate}
 use Rattle.definition.specs.Test.{is, see, never, _and_}
@@ -22,7 +23,7 @@ use Rattle.circle.specs.Circles.{Tells}
 use Rattle.circle.specs.Words.{coloursEnd}
 use Rattle.unifier.specs.declared.Unification.{Unification}
 use Rattle.unifier.specs.declared.Read.the-variants.{Whole, Broken as NoList, Full as NoRoom}
-use Rattle.unifier.specs.Solved.{Listed, whole, broken, full, listed, Told, tells, refused, rootsTo, bit, ended, asked, unfit, askedOf, solved, Left, leaves}
+use Rattle.unifier.specs.Solved.{Listed, whole, broken, full, listed, Told, tells, refused, rootsTo, bit, unifiedAt, joinedAt, ended, asked, unfit, askedOf, solved, Left, leaves}
 use Rattle.unifier.specs.Turns.{Reads}
 
 -- ---- what is owed
@@ -36,16 +37,16 @@ abbrev pub Writes : List ℕ → List ℕ → List ℕ → Counts → ℕ → Ty
 Writes cells work roots s n = (g : Graph) → Shows cells work s g → roots ≡ padded n (rootsTo g (length g))
 
 -- what is told of it, joined
-abbrev pub Joins : List ℕ → List ℕ → Counts → ℕ → Told → ℕ → Type 0
-Joins cells work s taken t n = (g : Graph) → Shows cells work s g → Inner g → t ≡ tells 0 taken (bit (circular g)) (rootsTo g (length g)) n
+abbrev pub Joins : List ℕ → List ℕ → Counts → ℕ → ℕ → Told → ℕ → Type 0
+Joins cells work s stage taken t n = (g : Graph) → Shows cells work s g → Inner g → t ≡ joinedAt stage taken g n
 
 -- what unification of two of its nodes comes to
-abbrev pub Solves : List ℕ → List ℕ → Counts → ℕ → ℕ → Told → ℕ → Type 0
-Solves cells work s x y t n = (g : Graph) → Shows cells work s g → Inner g → t ≡ ended (unify g x y) n
+abbrev pub Solves : List ℕ → List ℕ → Counts → ℕ → ℕ → ℕ → Told → ℕ → Type 0
+Solves cells work s x y stage t n = (g : Graph) → Shows cells work s g → Inner g → t ≡ ended stage (unifiedAt stage g x y) n
 
 -- and of any two numbers
-abbrev pub Asks : List ℕ → List ℕ → Counts → ℕ → ℕ → Told → ℕ → Type 0
-Asks cells work s x y t n = (g : Graph) → Shows cells work s g → Inner g → t ≡ asked g x y n
+abbrev pub Asks : List ℕ → List ℕ → Counts → ℕ → ℕ → ℕ → Told → ℕ → Type 0
+Asks cells work s x y stage t n = (g : Graph) → Shows cells work s g → Inner g → t ≡ asked g x y stage n
 
 -- ---- roots
 -- numbers of nodes are words
@@ -100,29 +101,47 @@ abbrev pub Says : ℕ → ℕ → ℕ → List ℕ → Told
 Says code taken circular roots = record { answer = record { code = code; taken = taken; circular = circular }; roots = roots }
 
 -- the test for circles, and then the roots
-pub joins : (cells before work : List ℕ) (s : Counts) (taken : ℕ) (circle : Bool) (b : ℕ) (roots : List ℕ) (n : ℕ) → Tells cells before work s circle → b ≡ bit circle → Writes cells work roots s n → Joins cells before s taken (Says 0 taken b roots) n
-unfolding tells
-joins cells before work s taken circle b roots n T e W g S I =
+pub joins : (cells before work : List ℕ) (s : Counts) (stage taken : ℕ) (circle : Bool) (b : ℕ) (roots : List ℕ) (n : ℕ) → 2 ≤ stage → Tells cells before work s circle → b ≡ bit circle → Writes cells work roots s n → Joins cells before s stage taken (Says 0 taken b roots) n
+unfolding tells joinedAt
+joins cells before work s stage taken circle b roots n h T e W g S I =
     let t = T g S I in
     let c : b ≡ bit (circular g) = e ∙ ap bit (t .0) in
     let r : roots ≡ padded n (rootsTo g (length g)) = W g (t .1) in
-    ap₂ (λ (k : ℕ) (l : List ℕ). Says 0 taken k l) c r
+    rw (le-leb 2 stage h, joinedAt) (ap₂ (λ (k : ℕ) (l : List ℕ). Says 0 taken k l) c r)
+
+-- nothing is unified, or the two are
+unified-none : (g : Graph) (x y : ℕ) → unifiedAt 0 g x y ≡ record { graph = some g; taken = 0 }
+unfolding unifiedAt
+unified-none g x y = refl
+
+unified-is : (stage : ℕ) (g : Graph) (x y : ℕ) → (stage ≡ 0 → ⊥) → unifiedAt stage g x y ≡ unify g x y
+unfolding unifiedAt
+unified-is stage g x y d = rw (ne-eqb stage 0 d, unifiedAt)
+
+pub solves-none : (cells work : List ℕ) (s : Counts) (x y stage : ℕ) (t : Told) (n : ℕ) → stage ≡ 0 → Joins cells work s stage 0 t n → Solves cells work s x y stage t n
+unfolding ended
+solves-none cells work s x y stage t n z J g S I = J g S I ∙ sym (ap (λ (v : Unified). ended stage v n) (ap (λ (k : ℕ). unifiedAt k g x y) z ∙ unified-none g x y))
 
 -- joined, or a clash
-pub solves-joined : (cells before work : List ℕ) (s : Counts) (x y taken : ℕ) (t : Told) (n : ℕ) → Unifies cells before work s x y (Joined taken) → Joins cells work s taken t n → Solves cells before s x y t n
+pub solves-joined : (cells before work : List ℕ) (s : Counts) (x y stage taken : ℕ) (t : Told) (n : ℕ) → (stage ≡ 0 → ⊥) → Unifies cells before work s x y (Joined taken) → Joins cells work s stage taken t n → Solves cells before s x y stage t n
 unfolding ended
-solves-joined cells before work s x y taken t n U J g S I =
+solves-joined cells before work s x y stage taken t n d U J g S I =
     let u = U .0 g S I in
-    J (u .0) (u .2) (u .3) ∙ sym (ap (λ (v : Unified). ended v n) (u .1))
+    J (u .0) (u .2) (u .3) ∙ sym (ap (λ (v : Unified). ended stage v n) (unified-is stage g x y d ∙ u .1))
 
 -- zeros only
 nothing-told : (code taken : ℕ) (roots : List ℕ) → roots ≡ replicate (length roots) 0 → Says code taken 0 roots ≡ tells code taken 0 [] (length roots)
 unfolding tells
 nothing-told code taken roots z = ap (Says code taken 0) (z ∙ sym (padded-none (length roots)))
 
-pub solves-clash : (cells before work roots : List ℕ) (s : Counts) (x y taken : ℕ) → Unifies cells before work s x y (Clash taken) → roots ≡ replicate (length roots) 0 → Solves cells before s x y (Says 1 taken 0 roots) (length roots)
+pub solves-clash : (cells before work roots : List ℕ) (s : Counts) (x y stage taken : ℕ) → (stage ≡ 0 → ⊥) → Unifies cells before work s x y (Clash taken) → roots ≡ replicate (length roots) 0 → Solves cells before s x y stage (Says 1 taken 0 roots) (length roots)
 unfolding ended
-solves-clash cells before work roots s x y taken U z g S I = nothing-told 1 taken roots z ∙ sym (ap (λ (v : Unified). ended v (length roots)) (U .0 g S I))
+solves-clash cells before work roots s x y stage taken d U z g S I = nothing-told 1 taken roots z ∙ sym (ap (λ (v : Unified). ended stage v (length roots)) (unified-is stage g x y d ∙ U .0 g S I))
+
+-- no more than that they are joined
+pub joins-only : (cells work roots : List ℕ) (s : Counts) (stage taken : ℕ) → stage < 2 → roots ≡ replicate (length roots) 0 → Joins cells work s stage taken (Says 0 taken 0 roots) (length roots)
+unfolding joinedAt
+joins-only cells work roots s stage taken h z g S I = rw (lt-leb 2 stage h, joinedAt) (nothing-told 0 taken roots z)
 
 -- a refusal
 pub refusal-told : (code : ℕ) (r : Unification) (roots : List ℕ) → r ≡ record { code = code; taken = 0; circular = 0 } → roots ≡ replicate (length roots) 0 → _≡_ {A = Told} (record { answer = r; roots = roots }) (refused code (length roots))
@@ -130,22 +149,22 @@ unfolding refused
 refusal-told code r roots e z = ap {B = Told} (λ (a : Unification). record { answer = a; roots = roots }) e ∙ nothing-told code 0 roots z
 
 -- ---- the two nodes
-module _ (cells work : List ℕ) (s : Counts) (x y : ℕ) (t : Told) (n : ℕ) where
-  pub asks-left : s .nodes ≤ x → t ≡ refused 2 n → Asks cells work s x y t n
+module _ (cells work : List ℕ) (s : Counts) (x y stage : ℕ) (t : Told) (n : ℕ) where
+  pub asks-left : s .nodes ≤ x → t ≡ refused 2 n → Asks cells work s x y stage t n
   unfolding asked _and_
   asks-left h e g S I = e ∙ (rw (asked, le-ltb x (length g) (omega (arith, many-nodes cells work s g S)), _and_))
 
   module _ (lx : x < s .nodes) where
-    pub asks-right : s .nodes ≤ y → t ≡ refused 2 n → Asks cells work s x y t n
+    pub asks-right : s .nodes ≤ y → t ≡ refused 2 n → Asks cells work s x y stage t n
     unfolding asked _and_
     asks-right h e g S I = let m = many-nodes cells work s g S in e ∙ (rw (asked, lt-ltb x (length g) (omega arith), le-ltb y (length g) (omega arith), _and_))
 
     module _ (ly : y < s .nodes) where
-      pub asks-room : n < s .nodes → t ≡ refused 3 n → Asks cells work s x y t n
+      pub asks-room : n < s .nodes → t ≡ refused 3 n → Asks cells work s x y stage t n
       unfolding asked _and_
       asks-room h e g S I = let m = many-nodes cells work s g S in e ∙ (rw (asked, lt-ltb x (length g) (omega arith), lt-ltb y (length g) (omega arith), _and_, lt-leb (length g) n (omega arith)))
 
-      pub asks-solves : s .nodes ≤ n → Solves cells work s x y t n → Asks cells work s x y t n
+      pub asks-solves : s .nodes ≤ n → Solves cells work s x y stage t n → Asks cells work s x y stage t n
       unfolding asked _and_
       asks-solves h W g S I = let m = many-nodes cells work s g S in W g S I ∙ (rw (asked, lt-ltb x (length g) (omega arith), lt-ltb y (length g) (omega arith), _and_, le-leb (length g) n (omega arith)))
 
@@ -170,25 +189,25 @@ fit cells work e = elim (see (leb 16777216 (length cells))) [
 ]
 
 -- ---- the whole call
-module _ (terms : List ℕ) (x y roots cells work : ℕ) (t : Told) where
-  pub solved-unfit : unfit cells work ≡ true → t ≡ refused 3 roots → t ≡ solved terms x y roots cells work
+module _ (terms : List ℕ) (x y stage roots cells work : ℕ) (t : Told) where
+  pub solved-unfit : unfit cells work ≡ true → t ≡ refused 3 roots → t ≡ solved terms x y stage roots cells work
   unfolding solved
   solved-unfit u e = e ∙ (rw (u, solved))
 
   module _ (u : unfit cells work ≡ false) (cells′ work′ : List ℕ) (long : length cells′ ≡ cells) where
-    solved-is : (l : Listed) → listed terms (length cells′) ≡ l → askedOf l x y roots ≡ solved terms x y roots cells work
+    solved-is : (l : Listed) → listed terms (length cells′) ≡ l → askedOf l x y stage roots ≡ solved terms x y stage roots cells work
     unfolding solved
     solved-is l e = rw (u, solved, sym long, e)
 
-    pub solved-broken : Reads terms cells′ work′ NoList → t ≡ refused 2 roots → t ≡ solved terms x y roots cells work
+    pub solved-broken : Reads terms cells′ work′ NoList → t ≡ refused 2 roots → t ≡ solved terms x y stage roots cells work
     unfolding askedOf
     solved-broken R e = e ∙ solved-is broken R
 
-    pub solved-full : Reads terms cells′ work′ NoRoom → t ≡ refused 3 roots → t ≡ solved terms x y roots cells work
+    pub solved-full : Reads terms cells′ work′ NoRoom → t ≡ refused 3 roots → t ≡ solved terms x y stage roots cells work
     unfolding askedOf
     solved-full R e = e ∙ solved-is full R
 
-    pub solved-whole : (s : Counts) → Reads terms cells′ work′ (Whole s) → Asks cells′ work′ s x y t roots → t ≡ solved terms x y roots cells work
+    pub solved-whole : (s : Counts) → Reads terms cells′ work′ (Whole s) → Asks cells′ work′ s x y stage t roots → t ≡ solved terms x y stage roots cells work
     unfolding askedOf
     solved-whole s R A = A (R .0) (R .1) (R .2) ∙ solved-is (whole (R .0)) (R .3)
 
@@ -197,12 +216,12 @@ pub zeros-all : (n : ℕ) (xs : List ℕ) → xs ≡ replicate n 0 → xs ≡ re
 zeros-all n xs e = e ∙ ap (λ (k : ℕ). replicate k 0) (sym (length-replicate n 0) ∙ ap length (sym e))
 
 -- what is told, and zeros in cells and work
-pub all-left : (terms : List ℕ) (x y n m : ℕ) (r : Unification) (cells work roots cells₁ work₁ cells₂ work₂ : List ℕ) → m ≡ n → length cells₁ ≡ length cells → length work₁ ≡ length work
-    → _≡_ {A = Told} (record { answer = r; roots = roots }) (solved terms x y m (length cells) (length work)) → cells₂ ≡ replicate (length cells₁) 0 → work₂ ≡ replicate (length work₁) 0
-    → _≡_ {A = Left} (record { answer = r; roots = roots; cells = cells₂; work = work₂ }) (leaves terms x y n (length cells) (length work))
+pub all-left : (terms : List ℕ) (x y stage n m : ℕ) (r : Unification) (cells work roots cells₁ work₁ cells₂ work₂ : List ℕ) → m ≡ n → length cells₁ ≡ length cells → length work₁ ≡ length work
+    → _≡_ {A = Told} (record { answer = r; roots = roots }) (solved terms x y stage m (length cells) (length work)) → cells₂ ≡ replicate (length cells₁) 0 → work₂ ≡ replicate (length work₁) 0
+    → _≡_ {A = Left} (record { answer = r; roots = roots; cells = cells₂; work = work₂ }) (leaves terms x y stage n (length cells) (length work))
 unfolding leaves
-all-left terms x y n m r cells work roots cells₁ work₁ cells₂ work₂ q c w e zc zw =
-    let t = e ∙ ap (λ (k : ℕ). solved terms x y k (length cells) (length work)) q in
+all-left terms x y stage n m r cells work roots cells₁ work₁ cells₂ work₂ q c w e zc zw =
+    let t = e ∙ ap (λ (k : ℕ). solved terms x y stage k (length cells) (length work)) q in
     let c₂ : cells₂ ≡ replicate (length cells) 0 = zc ∙ ap (λ (k : ℕ). replicate k 0) c in
     let w₂ : work₂ ≡ replicate (length work) 0 = zw ∙ ap (λ (k : ℕ). replicate k 0) w in
     λ i. record { answer = t i .answer; roots = t i .roots; cells = c₂ i; work = w₂ i }

@@ -162,17 +162,25 @@ fn bit_of(b: bool) -> u64
     0
 }
 
-// What is told of a graph after unification.
+// What is told of a graph after unification: below stage 2 no more than that.
 fn tell_joined(
     g: Graph,
     cells: &[u32],
     work: &mut [u32],
     roots: &mut [u32],
+    stage: u64,
     taken: usize,
 ) -> Unification
     requires { ⌜ HoldsInner (now cells) (now work) g × Roots (now roots) g × (coloursEnd (now cells) ≤ length (now work)) ⌝ }
-    ensures { λ r. ⌜ Joins (now (cells .entry)) (now (work .entry)) g taken (record { answer = r; roots = now (roots .exit) }) (length (now (roots .entry))) ⌝ }
+    ensures { λ r. ⌜ Joins (now (cells .entry)) (now (work .entry)) g stage taken (record { answer = r; roots = now (roots .exit) }) (length (now (roots .entry))) ⌝ }
 {
+    if stage < 2 {
+        return Unification {
+            code: 0,
+            taken: taken as u64,
+            circular: 0,
+        };
+    }
     let circle = circular(g, cells, work);
     write_roots(g, cells, work, roots);
     Unification {
@@ -182,7 +190,7 @@ fn tell_joined(
     }
 }
 
-// The two nodes are unified.
+// The two nodes are unified; not at stage 0.
 fn solve(
     g: Graph,
     cells: &[u32],
@@ -190,12 +198,16 @@ fn solve(
     roots: &mut [u32],
     x: Node,
     y: Node,
+    stage: u64,
 ) -> Unification
     requires { ⌜ HoldsInner (now cells) (now work) g × Roots (now roots) g × (coloursEnd (now cells) ≤ length (now work)) × (x .0 < g .nodes) × (y .0 < g .nodes) ⌝ }
-    ensures { λ r. ⌜ Solves (now (cells .entry)) (now (work .entry)) g (x .0) (y .0) (record { answer = r; roots = now (roots .exit) }) (length (now (roots .entry))) ⌝ }
+    ensures { λ r. ⌜ Solves (now (cells .entry)) (now (work .entry)) g (x .0) (y .0) stage (record { answer = r; roots = now (roots .exit) }) (length (now (roots .entry))) ⌝ }
 {
+    if stage == 0 {
+        return tell_joined(g, cells, work, roots, stage, 0);
+    }
     match unify(g, cells, work, x, y) {
-        Outcome::Joined(n) => tell_joined(g, cells, work, roots, n),
+        Outcome::Joined(n) => tell_joined(g, cells, work, roots, stage, n),
         Outcome::Clash(n) => Unification {
             code: 1,
             taken: n as u64,
@@ -216,9 +228,17 @@ fn refusal(code: u64) -> Unification
 }
 
 // Nodes `x` and `y` are unified, if they are nodes and there is a place for each root.
-fn ask(g: Graph, cells: &[u32], work: &mut [u32], roots: &mut [u32], x: u64, y: u64) -> Unification
+fn ask(
+    g: Graph,
+    cells: &[u32],
+    work: &mut [u32],
+    roots: &mut [u32],
+    x: u64,
+    y: u64,
+    stage: u64,
+) -> Unification
     requires { ⌜ HoldsInner (now cells) (now work) g × (coloursEnd (now cells) ≤ length (now work)) × (now roots ≡ replicate (length (now roots)) 0) ⌝ }
-    ensures { λ r. ⌜ Asks (now (cells .entry)) (now (work .entry)) g x y (record { answer = r; roots = now (roots .exit) }) (length (now (roots .entry))) ⌝ }
+    ensures { λ r. ⌜ Asks (now (cells .entry)) (now (work .entry)) g x y stage (record { answer = r; roots = now (roots .exit) }) (length (now (roots .entry))) ⌝ }
 {
     let n = g.nodes as u64;
     if n <= x {
@@ -230,7 +250,7 @@ fn ask(g: Graph, cells: &[u32], work: &mut [u32], roots: &mut [u32], x: u64, y: 
     if roots.len() < g.nodes {
         return refusal(3);
     }
-    solve(g, cells, work, roots, Node(x as u32), Node(y as u32))
+    solve(g, cells, work, roots, Node(x as u32), Node(y as u32), stage)
 }
 
 // The list is read and the two nodes are unified.
@@ -238,37 +258,40 @@ fn solve_list(
     terms: &[u32],
     x: u64,
     y: u64,
+    stage: u64,
     roots: &mut [u32],
     cells: &mut [u32],
     work: &mut [u32],
 ) -> Unification
     requires { ⌜ now roots ≡ replicate (length (now roots)) 0 ⌝ }
-    ensures { λ r. ⌜ _≡_ {A = Told} (record { answer = r; roots = now (roots .exit) }) (solved (now (terms .entry)) x y (length (now (roots .entry))) (length (now (cells .entry))) (length (now (work .entry)))) ⌝ }
+    ensures { λ r. ⌜ _≡_ {A = Told} (record { answer = r; roots = now (roots .exit) }) (solved (now (terms .entry)) x y stage (length (now (roots .entry))) (length (now (cells .entry))) (length (now (work .entry)))) ⌝ }
 {
     if lengths_unfit(cells.len(), work.len()) {
         return refusal(3);
     }
     match read_nodes(terms, cells, work) {
-        Read::Whole(g) => ask(g, cells, work, roots, x, y),
+        Read::Whole(g) => ask(g, cells, work, roots, x, y, stage),
         Read::Broken => refusal(2),
         Read::Full => refusal(3),
     }
 }
 
 // Nodes `x` and `y` of the list `terms` are unified in a graph over `cells` and `work`, and the numbers of all roots are written to `roots`.
+// At stage 0 nothing is unified; below stage 2 nothing is tested for circles and no root is written, so that a host can time unification alone.
 #[no_mangle]
 pub extern "C" fn unify_nodes(
     terms: &[u32],
     x: u64,
     y: u64,
+    stage: u64,
     roots: &mut [u32],
     cells: &mut [u32],
     work: &mut [u32],
 ) -> Unification
-    ensures { λ r. ⌜ _≡_ {A = Left} (record { answer = r; roots = now (roots .exit); cells = now (cells .exit); work = now (work .exit) }) (leaves (now (terms .entry)) x y (length (now (roots .entry))) (length (now (cells .entry))) (length (now (work .entry)))) ⌝ }
+    ensures { λ r. ⌜ _≡_ {A = Left} (record { answer = r; roots = now (roots .exit); cells = now (cells .exit); work = now (work .exit) }) (leaves (now (terms .entry)) x y stage (length (now (roots .entry))) (length (now (cells .entry))) (length (now (work .entry)))) ⌝ }
 {
     zero_words(roots);
-    let answer = solve_list(terms, x, y, roots, cells, work);
+    let answer = solve_list(terms, x, y, stage, roots, cells, work);
     zero_words(cells);
     zero_words(work);
     answer

@@ -13,7 +13,7 @@ returns c =
     let a = c .before .before .before .before .before .before .before .before .before .before .before .before .before .before .before .before .before .before .before .before .before .before .before .before .before .before .args in
     let k = c .before .before .before .before .before .before .before .before .before .before .before .before .before .before .solve-list .kept in
     let l = c .before .before .before .before .before .before .before .before .before .before .before .before .before .before .solve-list .last in
-    all-left (a .terms .now) (a .x) (a .y) _ _ _ (a .cells .now) (a .work .now) (l .1 .1 .1 .0) (l .1 .1 .1 .1 .0) (l .1 .1 .1 .1 .1 .0) _ _ (c .before .before .before .before .before .before .before .before .before .before .before .before .before .before .before .before .before .before .before .before .zero-words .kept .0) (k .1 .1 .1 .1 .0) (k .1 .1 .1 .1 .1 .0) (c .before .before .before .before .before .before .before .before .before .before .before .before .before .before .solve-list .ensures) (c .before .before .before .before .before .before .zero-words2 .ensures) (c .before .before .zero-words3 .ensures)
+    all-left (a .terms .now) (a .x) (a .y) (a .stage) _ _ _ (a .cells .now) (a .work .now) (l .1 .1 .1 .1 .0) (l .1 .1 .1 .1 .1 .0) (l .1 .1 .1 .1 .1 .1 .0) _ _ (c .before .before .before .before .before .before .before .before .before .before .before .before .before .before .before .before .before .before .before .before .zero-words .kept .0) (k .1 .1 .1 .1 .1 .0) (k .1 .1 .1 .1 .1 .1 .0) (c .before .before .before .before .before .before .before .before .before .before .before .before .before .before .solve-list .ensures) (c .before .before .before .before .before .before .zero-words2 .ensures) (c .before .before .zero-words3 .ensures)
 
 pub unify-nodes-spec : {M : Type 1} → statement M
 unify-nodes-spec =

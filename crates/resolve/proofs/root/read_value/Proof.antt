@@ -1,7 +1,9 @@
 -- `read_value` meets its contract.
 use borrow.Author.Needs.{needs}
+use mathlib.Core.Path.{ap, _∙_}
+use Prim.Native.Nat.{ℕ, _-_}
 use native.Mathlib.Omega.{arith}
-use Rattle.resolve.specs.Ways.{opening-few, value-some, value-ground, value-short, value-gives}
+use Rattle.resolve.specs.Ways.{opening-few, value-ground, value-short, value-gives}
 use Rattle.resolve.proofs.root.read_value.Statement.{statement}
 use Rattle.resolve.proofs.root.read_value.Tie as tie
 
@@ -11,17 +13,14 @@ add-word-at-2 c = let f = opening-few _ _ _ _ _ _ _ _ _ _ _ _ _ (c .before .befo
 word-at-requires : tie.Need-word-at-requires
 word-at-requires c κs = let f = opening-few _ _ _ _ _ _ _ _ _ _ _ _ _ (c .before .before .before .before .before .before .pre .opening) in (omega (arith, f .0, f .2), f .3)
 
-sub-value : tie.Need-sub-value
-sub-value c = value-some _ _ _ _ _ _ _ _ _ _ _ _ (c .before .before .before .before .before .before .before .pre .opening) _ (c .word-at .ensures)
-
 lift-requires : tie.Need-lift-requires
-lift-requires c κs = ((c .before .before .before .before .before .before .before .before .before .pre .opening) .holding .lies .lifts, value-ground _ _ _ _ _ _ _ _ _ _ _ _ (c .before .before .before .before .before .before .before .before .before .pre .opening) _ (c .before .before .word-at .ensures))
+lift-requires c κs = let K = c .before .before .before .before .before .before .before .before .before .before .pre .opening in (K .holding .lies .lifts, value-ground _ _ _ _ _ _ _ _ _ _ _ _ K _ (c .before .before .said .ensures ∙ ap (λ (k : ℕ). k - 1) (c .before .before .before .word-at .ensures)))
 
 returns : tie.Need-returns
-returns c = λ e f K. value-gives _ _ _ _ _ _ _ _ _ _ _ _ K _ (c .before .before .before .before .before .before .before .before .before .before .word-at .ensures) (c .before .before .before .before .before .before .before .lift .last .1 .0) (c .before .before .before .before .before .before .before .lift .last .1 .1 .0) _ _ (rw (c .before .p .given .1) at (c .before .before .before .before .before .before .before .lift .ensures))
+returns c = λ e f K. value-gives _ _ _ _ _ _ _ _ _ _ _ _ K _ (c .before .before .before .before .before .before .before .before .before .before .said .ensures ∙ ap (λ (k : ℕ). k - 1) (c .before .before .before .before .before .before .before .before .before .before .before .word-at .ensures)) (c .before .before .before .before .before .before .before .lift .last .1 .0) (c .before .before .before .before .before .before .before .lift .last .1 .1 .0) _ _ (rw (c .before .p .given .1) at (c .before .before .before .before .before .before .before .lift .ensures))
 
 returns-2 : tie.Need-returns-2
-returns-2 c = λ e f K. value-short _ _ _ _ _ _ _ _ _ _ _ _ K _ (c .before .before .before .before .before .before .before .before .before .word-at .ensures) (c .before .before .before .before .before .before .lift .last .1 .0) (c .before .before .before .before .before .before .lift .last .1 .1 .0) (rw (c .enum-told .given .1) at (c .before .before .before .before .before .before .lift .ensures))
+returns-2 c = λ e f K. value-short _ _ _ _ _ _ _ _ _ _ _ _ K _ (c .before .before .before .before .before .before .before .before .before .said .ensures ∙ ap (λ (k : ℕ). k - 1) (c .before .before .before .before .before .before .before .before .before .before .word-at .ensures)) (c .before .before .before .before .before .before .lift .last .1 .0) (c .before .before .before .before .before .before .lift .last .1 .1 .0) (rw (c .enum-told .given .1) at (c .before .before .before .before .before .before .lift .ensures))
 
 pub read-value-spec : {M : Type 1} → statement M
 read-value-spec =
@@ -32,7 +31,7 @@ read-value-spec =
     (λ c. search needs)
     add-word-at-2
     word-at-requires
-    sub-value
+    (λ c κs. search needs)
     lift-requires
     (λ c. search needs)
     (λ c. search needs)
