@@ -1,0 +1,1 @@
+// What the steps of class building keep, of the definition alone. No code.
