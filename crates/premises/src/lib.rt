@@ -1,0 +1,2 @@
+// All premises of the step that makes a class.
+pub mod premises;

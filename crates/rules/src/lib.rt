@@ -1,0 +1,2 @@
+// The class that a step makes by its rule.
+pub mod solve;

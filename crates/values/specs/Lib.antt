@@ -1,0 +1,3 @@
+-- Ground values of a rule's premises.
+pub mod One
+pub mod All
