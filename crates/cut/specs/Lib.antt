@@ -1,0 +1,6 @@
+-- What making a cut class owes to the definition.
+pub mod Patterns
+pub mod Fresh
+pub mod Conclusion
+pub mod Marks
+pub mod Making

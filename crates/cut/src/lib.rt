@@ -1,0 +1,4 @@
+// Cut classes: a predicate over distinct flexible variables.
+pub mod conclusion;
+pub mod make;
+pub mod row;

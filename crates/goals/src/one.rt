@@ -1,0 +1,99 @@
+// One goal: its result, that one's class, and the instance test.
+use base::id::Ground;
+use base::id::Pattern;
+use catalog::region::Sought;
+use catalog::whole::Catalog;
+use instance::tables::Instance;
+use instance::walk::Matched;
+use instance::walk::instance;
+use keys::classes::Keying;
+use needed::firsts::first_of;
+use pack::goal::goal_judgment;
+use pack::goal::goal_result;
+use pack::goal::result_step;
+use pack::step::step_judgment;
+use premise::layout::Layout;
+use store::memo::Memo;
+use store::nodes::Store;
+ghost use mathlib.Core.Path.{_≡_};
+ghost use Prim.Native.Nat.{_+_, _<_};
+ghost use lib.ListN.{length, getD};
+ghost use Rattle.catalog.specs.Whole.{recordsOf};
+ghost use Rattle.pack.specs.Held.{Held};
+ghost use Rattle.goals.specs.Ready.{rowIn, Testable};
+ghost use Rattle.goals.specs.One.{StepOf, TestsOne};
+
+// A goal is met, with the memos as they are then; or it has no result, or one with another judgment; or the judgment of the result's step
+// is no instance of its class's conclusion.
+pub enum Goal {
+    Met(Memo, Memo),
+    Unmet,
+    Other(usize),
+}
+
+// The step of goal `g`'s result, if it has the goal's judgment.
+fn goal_step(pack: &[u8], work: &[u32], c: Catalog, g: usize) -> Sought
+    requires { ⌜ Held (now pack) (now work) c × (g < length (recordsOf (now work) c 5)) ⌝ }
+    ensures { λ r. ⌜ StepOf (now (pack .entry)) (now (work .entry)) c g r ⌝ }
+{
+    match goal_result(pack, work, c, g) {
+        Sought::At(i) => {
+            let s = result_step(pack, work, c, i) as usize;
+            if step_judgment(pack, work, c, s) == goal_judgment(pack, work, c, g) {
+                return Sought::At(s);
+            }
+            return Sought::Nowhere;
+        }
+        Sought::Nowhere => {
+            return Sought::Nowhere;
+        }
+    }
+}
+
+// The conclusion of step `f`'s class.
+fn conclusion_of(work: &[u32], class: &[u32], l: Layout, f: usize) -> Pattern
+    requires { ⌜ (f < length (now class)) × (l .rows + getD (now class) f 0 < length (now work)) × (rowIn (now work) (now class) l f < length (now class)) ⌝ }
+    ensures { λ r. ⌜ r .0 ≡ getD (now (class .entry)) (rowIn (now (work .entry)) (now (class .entry)) l f) 0 ⌝ }
+{
+    let at = l.rows + class[f] as usize;
+    let row = work[at] as usize;
+    Pattern(class[row])
+}
+
+// Goal `g` is tested.
+pub fn test_goal(
+    pack: &[u8],
+    work: &mut [u32],
+    class: &[u32],
+    words: &[u32],
+    c: Catalog,
+    k: Keying,
+    l: Layout,
+    t: Instance,
+    st: Store,
+    seen: Memo,
+    values: Memo,
+    g: usize,
+) -> Goal
+    requires { ⌜ Testable (now pack) (now work) (now class) (now words) c k l t st seen values × (g < length (recordsOf (now work) c 5)) ⌝ }
+    ensures { λ r. ⌜ TestsOne (now (pack .entry)) (now (work .entry)) (now (work .exit)) (now (class .entry)) (now (words .entry)) c k l t st g r ⌝ }
+{
+    match goal_step(pack, work, c, g) {
+        Sought::At(s) => {
+            let f = first_of(pack, work, c, k.at, s);
+            let p = conclusion_of(work, class, l, f);
+            let m = goal_judgment(pack, work, c, g);
+            match instance(pack, work, words, c, t, st, seen, values, p, Ground(m)) {
+                Matched::Yes(seen, values) => {
+                    return Goal::Met(seen, values);
+                }
+                Matched::No => {
+                    return Goal::Other(s);
+                }
+            }
+        }
+        Sought::Nowhere => {
+            return Goal::Unmet;
+        }
+    }
+}
