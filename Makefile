@@ -34,8 +34,11 @@ bench: tools dock
 	@rt staticlib interner > target/interner.log 2>&1 || { cat target/interner.log; exit 1; }
 	@rt staticlib unifier > target/unifier.log 2>&1 || { cat target/unifier.log; exit 1; }
 	@rt staticlib parser > target/parser.log 2>&1 || { cat target/parser.log; exit 1; }
+	@rt staticlib walker > target/walker.log 2>&1 || { cat target/walker.log; exit 1; }
 	@HORN_SRC=$(realpath $(HORN)) RATTLE_LIB=$(CURDIR)/target/staticlib $(CARGO) build --offline --locked --release --quiet --manifest-path tools/Cargo.toml -p bench --features original
 	@$(TOOLS)/bench intern
+	@$(TOOLS)/bench unify --times
+	@$(TOOLS)/bench walk --times
 	@$(TOOLS)/bench read
 	@$(TOOLS)/bench check
 

@@ -33,13 +33,19 @@ fn named(variable: &str, what: &str, files: &[&str]) -> Vec<PathBuf> {
 fn main() {
     let archives = named(
         "RATTLE_LIB",
-        "the library's archives (it has libdock.a, libinterner.a, libparser.a and libunifier.a)",
-        &["libdock.a", "libinterner.a", "libparser.a", "libunifier.a"],
+        "the library's archives (it has libdock.a, libinterner.a, libparser.a, libunifier.a and libwalker.a)",
+        &[
+            "libdock.a",
+            "libinterner.a",
+            "libparser.a",
+            "libunifier.a",
+            "libwalker.a",
+        ],
     );
     if let Some(folder) = archives.first().and_then(|archive| archive.parent()) {
         println!("cargo::rustc-link-search=native={}", folder.display());
     }
-    for archive in ["dock", "interner", "parser", "unifier"] {
+    for archive in ["dock", "interner", "parser", "unifier", "walker"] {
         println!("cargo::rustc-link-lib=static={archive}");
     }
 

@@ -23,7 +23,12 @@ mod stand_in;
 mod trial;
 mod tries;
 mod unify;
+#[cfg(feature = "original")]
+mod unify_pace;
 mod verdicts;
+mod walk;
+#[cfg(feature = "original")]
+mod walk_pace;
 mod wrong;
 
 // The names that the original's files call these by.
@@ -60,13 +65,28 @@ bench: the library beside the Rust original
   bench unify             unify written pairs of terms and drawn ones in the library;
                           check what comes back beside a plain unifier, and beside the
                           original where it is in the build
+  bench unify --times     time the unification of generated terms, of up to 100,000
+                          levels, in the library and in the original
+  bench unify --times --quick
+                          up to 1,000 levels and fewer rounds, for tests
+  bench walk FOLDER       copy written patterns and drawn ones and read them back, and
+                          make the class of each recorded step of FOLDER whose rule has
+                          no premises, in the library; check what comes back beside a
+                          plain renumbering and the recorded classes
+  bench walk --times      time copying and reading back of generated patterns, in the
+                          library and in the original
+  bench walk --times --quick
+                          smaller patterns and fewer rounds, for tests
   bench --help            this page
 
-`bench intern` wants a build with the feature `original`.
+`bench intern`, `bench unify --times` and `bench walk --times` want a build with the
+feature `original`.
 Exit status: 0 done; 1 a difference, a fault in the input, a full `bench read` in which
-reading a byte of a largest pack takes over 3 times as long as one of a smallest, or a
-full `bench check` in which checking a step takes over 5 times as long, said in one line
-on standard error; 2 a wrong call.
+reading a byte of a largest pack takes over 3 times as long as one of a smallest, a full
+`bench check` in which checking a step takes over 5 times as long, a full `bench unify
+--times` or `bench walk --times` in which four times the size takes over 5 times as long,
+or a full `bench walk --times` in which a node of a largest pattern takes over 5 times as
+long as one of a smallest, said in one line on standard error; 2 a wrong call.
 ";
 
 fn main() -> ExitCode {
@@ -86,6 +106,11 @@ fn run(args: &[&str]) -> Result<String, Fault> {
         ["check"] => Ok(check_pace::report(false)?),
         ["check", "--quick"] => Ok(check_pace::report(true)?),
         ["unify"] => Ok(unify::check()?),
+        ["unify", "--times"] => unify_times(false),
+        ["unify", "--times", "--quick"] => unify_times(true),
+        ["walk", "--times"] => walk_times(false),
+        ["walk", "--times", "--quick"] => walk_times(true),
+        ["walk", folder] => Ok(walk::check(folder)?),
         _ => Err(cli::unknown(args)),
     }
 }
@@ -98,4 +123,24 @@ fn intern(quick: bool) -> Result<String, Fault> {
 #[cfg(not(feature = "original"))]
 fn intern(_: bool) -> Result<String, Fault> {
     cli::call("intern: the original is not in this build (feature `original`)")
+}
+
+#[cfg(feature = "original")]
+fn unify_times(quick: bool) -> Result<String, Fault> {
+    Ok(unify_pace::report(quick)?)
+}
+
+#[cfg(not(feature = "original"))]
+fn unify_times(_: bool) -> Result<String, Fault> {
+    cli::call("unify --times: the original is not in this build (feature `original`)")
+}
+
+#[cfg(feature = "original")]
+fn walk_times(quick: bool) -> Result<String, Fault> {
+    Ok(walk_pace::report(quick)?)
+}
+
+#[cfg(not(feature = "original"))]
+fn walk_times(_: bool) -> Result<String, Fault> {
+    cli::call("walk --times: the original is not in this build (feature `original`)")
 }

@@ -25,6 +25,7 @@ unsafe extern "C" {
         terms_len: usize,
         x: u64,
         y: u64,
+        stage: u64,
         roots: *mut u32,
         roots_len: usize,
         cells: *mut u32,
@@ -96,32 +97,67 @@ impl Lent {
     }
 }
 
-/// One call; cells and work must come back as zeros, and roots too unless it is joined.
-pub fn call(terms: &[u32], x: u64, y: u64, lent: Lent) -> Result<(Unification, Vec<u32>), String> {
-    let mut roots = vec![JUNK; lent.roots];
-    let mut cells = vec![JUNK; lent.cells];
-    let mut work = vec![JUNK; lent.work];
-    // SAFETY: four slices of their own, each with its own length.
-    let answer = unsafe {
-        unify_nodes(
-            terms.as_ptr(),
-            terms.len(),
-            x,
-            y,
-            roots.as_mut_ptr(),
-            roots.len(),
-            cells.as_mut_ptr(),
-            cells.len(),
-            work.as_mut_ptr(),
-            work.len(),
-        )
-    };
-    zeros("cells", &cells)?;
-    zeros("work", &work)?;
-    if answer.code != JOINED {
-        zeros("roots", &roots)?;
+/// How far a call goes: it reads, it unifies too, it tests for circles and writes roots too.
+pub const READ: u64 = 0;
+pub const UNIFY: u64 = 1;
+const WHOLE: u64 = 2;
+
+/// The buffers of a call.
+pub struct Buffers {
+    roots: Vec<u32>,
+    cells: Vec<u32>,
+    work: Vec<u32>,
+}
+
+impl Buffers {
+    pub fn new(lent: Lent) -> Self {
+        Buffers {
+            roots: vec![JUNK; lent.roots],
+            cells: vec![JUNK; lent.cells],
+            work: vec![JUNK; lent.work],
+        }
     }
-    Ok((answer, roots))
+
+    pub fn call(&mut self, terms: &[u32], x: u64, y: u64, stage: u64) -> Unification {
+        // SAFETY: four slices of their own, each with its own length.
+        unsafe {
+            unify_nodes(
+                terms.as_ptr(),
+                terms.len(),
+                x,
+                y,
+                stage,
+                self.roots.as_mut_ptr(),
+                self.roots.len(),
+                self.cells.as_mut_ptr(),
+                self.cells.len(),
+                self.work.as_mut_ptr(),
+                self.work.len(),
+            )
+        }
+    }
+}
+
+/// One call; cells and work must come back as zeros, and roots too unless it is joined.
+fn call_at(
+    terms: &[u32],
+    x: u64,
+    y: u64,
+    stage: u64,
+    lent: Lent,
+) -> Result<(Unification, Vec<u32>), String> {
+    let mut lent = Buffers::new(lent);
+    let answer = lent.call(terms, x, y, stage);
+    zeros("cells", &lent.cells)?;
+    zeros("work", &lent.work)?;
+    if answer.code != JOINED {
+        zeros("roots", &lent.roots)?;
+    }
+    Ok((answer, lent.roots))
+}
+
+fn call(terms: &[u32], x: u64, y: u64, lent: Lent) -> Result<(Unification, Vec<u32>), String> {
+    call_at(terms, x, y, WHOLE, lent)
 }
 
 pub fn check() -> Result<String, String> {
@@ -149,10 +185,33 @@ enum Outcome {
 }
 use Outcome::{Circle, Clash, Joined};
 
-/// Two of Chang and Lee, Symbolic Logic and Mechanical Theorem Proving (1973), on
-/// unification; the one of Martelli and Montanari, An Efficient Unification Algorithm
-/// (1982); and pairs that only Robinson's test of a variable inside its own term tells apart.
-const EXAMPLES: [Example; 6] = [
+/// Of Robinson, A Machine-Oriented Logic Based on the Resolution Principle (1965), section 5,
+/// the set whose most general unifier is worked out and, by twos, the three of the
+/// disagreement set; two of Chang and Lee, Symbolic Logic and Mechanical Theorem Proving
+/// (1973), on unification; the one of Martelli and Montanari, An Efficient Unification
+/// Algorithm (1982); and pairs that only Robinson's test of a variable inside its own term
+/// tells apart. All are cited from memory; the texts were not at hand.
+const EXAMPLES: [Example; 10] = [
+    Example {
+        left: "P(a,x,h(g(z)))",
+        right: "P(z,h(y),h(y))",
+        outcome: Joined(&[("z", "a"), ("x", "h(g(a))"), ("y", "g(a)")]),
+    },
+    Example {
+        left: "P(x,h(x,y),y)",
+        right: "P(x,k(y),y)",
+        outcome: Clash,
+    },
+    Example {
+        left: "P(x,h(x,y),y)",
+        right: "P(x,a,b)",
+        outcome: Clash,
+    },
+    Example {
+        left: "P(x,k(y),y)",
+        right: "P(x,a,b)",
+        outcome: Clash,
+    },
     Example {
         left: "P(a,x,f(g(y)))",
         right: "P(z,f(z),f(u))",
@@ -403,6 +462,7 @@ fn agree(nodes: &[Node], x: u32, y: u32) -> Result<(), String> {
     if (answer.taken, answer.circular) != wanted {
         return Err(format!("{answer:?}, not {wanted:?}"));
     }
+    stages(nodes, x, y, answer)?;
     let mut root_of = HashMap::new();
     let mut class_of = HashMap::new();
     for (i, &root) in roots.iter().enumerate() {
@@ -420,6 +480,24 @@ fn agree(nodes: &[Node], x: u32, y: u32) -> Result<(), String> {
         {
             return Err(format!("node {i} has root {root}, a variable, and a term"));
         }
+    }
+    Ok(())
+}
+
+/// A call that goes less far says less: no circle and no roots, and without unification no
+/// pairs.
+fn stages(nodes: &[Node], x: u32, y: u32, whole: Unification) -> Result<(), String> {
+    for (stage, taken) in [(UNIFY, whole.taken), (READ, 0)] {
+        let wanted = Unification {
+            taken,
+            circular: 0,
+            ..whole
+        };
+        let (got, roots) = call_at(&words(nodes), x.into(), y.into(), stage, Lent::exact(nodes))?;
+        if got != wanted {
+            return Err(format!("stage {stage}: {got:?}, not {wanted:?}"));
+        }
+        zeros("roots", &roots)?;
     }
     Ok(())
 }

@@ -1,0 +1,230 @@
+//! The speed of the library's unification beside the original's, on terms of four kinds.
+use crate::generalize::door;
+use crate::unify::{Buffers, JOINED, Lent, Node, READ, UNIFY, words};
+use std::fmt::Write as _;
+use std::io::Write as _;
+use std::time::Instant;
+
+/// The second size is four times the first: unification that is linear takes four times as
+/// long, and may take five.
+const SIZES: [usize; 2] = [25_000, 100_000];
+const MOST_GROWTH: f64 = 5.0;
+
+const F: u32 = 0;
+const G: u32 = 1;
+const A: u32 = 2;
+
+struct Kind {
+    name: &'static str,
+    what: &'static str,
+    /// Nodes of about that size, and the two to unify.
+    make: fn(usize) -> (Vec<Node>, u32, u32),
+}
+
+const KINDS: [Kind; 4] = [
+    Kind {
+        name: "deep",
+        what: "two terms of n levels, a variable and a constant at their ends",
+        make: deep,
+    },
+    Kind {
+        name: "wide",
+        what: "one head over n variables and over n constants",
+        make: wide,
+    },
+    Kind {
+        name: "chain",
+        what: "n variables bound one to the next, then the first to a constant",
+        make: chain,
+    },
+    Kind {
+        name: "double",
+        what: "terms of 40 doublings, two beside two, n / 40 times",
+        make: double,
+    },
+];
+
+const NOTES: &str = "
+Nanoseconds a level, argument, binding or doubling, by the least times over the rounds,
+since a difference of two calls is of nothing else; each side first every other round.
+  original  the original's `Graph::unify` alone, on a graph that is there
+  ours      a call of the library less one that unifies nothing: both read the list and
+            clear, and do nothing else
+  whole     the call
+";
+
+struct Row {
+    kind: &'static str,
+    size: usize,
+    original: f64,
+    ours: f64,
+    whole: f64,
+}
+
+pub fn report(quick: bool) -> Result<String, String> {
+    let rounds = if quick { 3 } else { 41 };
+    let mut rows = Vec::new();
+    for kind in &KINDS {
+        for size in SIZES.map(|size| if quick { size / 100 } else { size }) {
+            let row = measure(kind, size, rounds);
+            rows.push(row.map_err(|why| format!("{}, {size}: {why}", kind.name))?);
+        }
+    }
+    let mut out = format!("Unification, {rounds} rounds\n{NOTES}\nKinds\n");
+    for kind in &KINDS {
+        let _ = writeln!(out, "  {:6}  {}", kind.name, kind.what);
+    }
+    let _ = writeln!(
+        out,
+        "\n{:6} {:>7} {:>9} {:>7} {:>7} {:>7}",
+        "kind", "size", "original", "ours", "whole", "ratio"
+    );
+    for row in &rows {
+        let _ = writeln!(
+            out,
+            "{:6} {:>7} {:>9.1} {:>7.1} {:>7.1} {:>7.2}",
+            row.kind,
+            row.size,
+            row.original,
+            row.ours,
+            row.whole,
+            row.ours / row.original
+        );
+    }
+    let slow = growth(&rows, &mut out);
+    if quick || slow.is_empty() {
+        return Ok(out);
+    }
+    let _ = std::io::stdout().write_all(out.as_bytes());
+    Err(format!(
+        "four times the size takes more than {MOST_GROWTH} times as long: {}",
+        slow.join(", ")
+    ))
+}
+
+/// The time of four times the size over that of the size; answers the kinds that grow too
+/// much.
+fn growth(rows: &[Row], out: &mut String) -> Vec<String> {
+    let mut slow = Vec::new();
+    let _ = writeln!(
+        out,
+        "\nFour times the size\n\n{:6} {:>9} {:>7}",
+        "kind", "original", "ours"
+    );
+    for pair in rows.chunks(2) {
+        let [small, large] = pair else { continue };
+        let times = large.size as f64 / small.size as f64;
+        let ours = times * large.ours / small.ours;
+        let _ = writeln!(
+            out,
+            "{:6} {:>9.2} {ours:>7.2}",
+            small.kind,
+            times * large.original / small.original
+        );
+        if ours.is_nan() || ours > MOST_GROWTH {
+            slow.push(format!("{} {ours:.2}", small.kind));
+        }
+    }
+    slow
+}
+
+fn measure(kind: &Kind, size: usize, rounds: usize) -> Result<Row, String> {
+    let (nodes, x, y) = (kind.make)(size);
+    let list = words(&nodes);
+    let mut lent = Buffers::new(Lent::exact(&nodes));
+    let mut ours = |stage: u64| -> Result<f64, String> {
+        let start = Instant::now();
+        let answer = lent.call(&list, x.into(), y.into(), stage);
+        let time = start.elapsed().as_nanos() as f64;
+        match answer.code {
+            JOINED => Ok(time),
+            code => Err(format!("the library says {code}")),
+        }
+    };
+    let theirs = || -> Result<f64, String> { Ok(door::time(&nodes, x, y)?.as_nanos() as f64) };
+    let mut least = [f64::MAX; 3];
+    // The first round is not counted: in it all memory is made to be there.
+    for round in 0..=rounds {
+        let first = if round % 2 == 0 { theirs()? } else { 0.0 };
+        let (whole, idle) = (ours(UNIFY)?, ours(READ)?);
+        let original = if round % 2 == 0 { first } else { theirs()? };
+        if round > 0 {
+            for (least, time) in least.iter_mut().zip([original, whole, idle]) {
+                *least = least.min(time);
+            }
+        }
+    }
+    let [original, whole, idle] = least.map(|time| time / size as f64);
+    Ok(Row {
+        kind: kind.name,
+        size,
+        original,
+        ours: whole - idle,
+        whole,
+    })
+}
+
+fn var() -> Node {
+    Node::Var {
+        flex: false,
+        rigid: false,
+    }
+}
+
+/// A term of so many levels over a node.
+fn levels(nodes: &mut Vec<Node>, size: usize, end: Node) -> u32 {
+    nodes.push(end);
+    for _ in 0..size {
+        nodes.push(Node::App(G, vec![nodes.len() as u32 - 1]));
+    }
+    nodes.len() as u32 - 1
+}
+
+fn deep(size: usize) -> (Vec<Node>, u32, u32) {
+    let mut nodes = Vec::new();
+    let x = levels(&mut nodes, size, var());
+    let y = levels(&mut nodes, size, Node::App(A, Vec::new()));
+    (nodes, x, y)
+}
+
+fn wide(size: usize) -> (Vec<Node>, u32, u32) {
+    let mut nodes = vec![var(); size];
+    nodes.push(Node::App(A, Vec::new()));
+    let n = size as u32;
+    nodes.push(Node::App(F, (0..n).collect()));
+    nodes.push(Node::App(F, vec![n; size]));
+    (nodes, n + 1, n + 2)
+}
+
+fn chain(size: usize) -> (Vec<Node>, u32, u32) {
+    let mut nodes = vec![var(); size];
+    nodes.push(Node::App(A, Vec::new()));
+    let n = size as u32;
+    // The last arguments are taken first, so each variable is bound to the next, and the
+    // first one's chain is the longest; it meets the constant last of all.
+    nodes.push(Node::App(F, std::iter::once(0).chain(0..n - 1).collect()));
+    nodes.push(Node::App(F, std::iter::once(n).chain(1..n).collect()));
+    (nodes, n + 1, n + 2)
+}
+
+fn double(size: usize) -> (Vec<Node>, u32, u32) {
+    const DOUBLINGS: usize = 40;
+    let mut nodes = Vec::new();
+    let mut doubled = |end: Node| {
+        nodes.push(end);
+        for _ in 0..DOUBLINGS {
+            let last = nodes.len() as u32 - 1;
+            nodes.push(Node::App(F, vec![last, last]));
+        }
+        nodes.len() as u32 - 1
+    };
+    let (mut left, mut right) = (Vec::new(), Vec::new());
+    for _ in 0..size.div_ceil(DOUBLINGS) {
+        left.push(doubled(var()));
+        right.push(doubled(Node::App(A, Vec::new())));
+    }
+    let at = nodes.len() as u32;
+    nodes.push(Node::App(G, left));
+    nodes.push(Node::App(G, right));
+    (nodes, at, at + 1)
+}

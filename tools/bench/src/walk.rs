@@ -1,0 +1,623 @@
+//! Copies of patterns read back, and classes of steps without premises, in the library: written
+//! patterns and drawn ones beside a plain renumbering, the steps of recorded packs beside a plain
+//! reading of their rules and the recorded classes; and calls that it refuses.
+use crate::numbers::Numbers;
+use crate::ours::zeros;
+use certpack::pack::{self, Pack, Rule, Term};
+use certpack::vectors::{self, Case};
+use std::collections::HashMap;
+
+/// What a call says: 0 with a pattern's number, how many variables are numbered and how many cells
+/// the graph has; or a refusal's number and place.
+#[repr(C)]
+#[derive(Clone, Copy, Debug, PartialEq, Eq)]
+pub struct Walked {
+    pub code: u64,
+    pub at: u64,
+    pub numbered: u64,
+    pub cells: u64,
+}
+
+const DONE: u64 = 0;
+const FORM: (u64, u64) = (1, 0);
+const LENGTHS: (u64, u64) = (2, 0);
+const SHORT: u64 = 8;
+/// No list of patterns, no such pattern, no such step or one with premises.
+const NONE: (u64, u64) = (12, 0);
+/// The places of a short buffer.
+const PATTERNS: u64 = 2;
+const CELLS: u64 = 3;
+const WORK: u64 = 4;
+
+/// In place of a head: the node is a variable, by its number and its sort.
+pub const VAR: u32 = u32::MAX - 1;
+/// What buffers hold ahead of a call.
+const JUNK: u32 = 0xdead_beef;
+
+unsafe extern "C" {
+    fn copy_pattern(
+        pack: *const u8,
+        pack_len: usize,
+        from: *const u32,
+        from_len: usize,
+        flex: *const u32,
+        flex_len: usize,
+        p: u64,
+        copies: u64,
+        read: u64,
+        patterns: *mut u32,
+        patterns_len: usize,
+        cells: *mut u32,
+        cells_len: usize,
+        work: *mut u32,
+        work_len: usize,
+    ) -> Walked;
+    fn single_class(
+        pack: *const u8,
+        pack_len: usize,
+        step: u64,
+        patterns: *mut u32,
+        patterns_len: usize,
+        cells: *mut u32,
+        cells_len: usize,
+        work: *mut u32,
+        work_len: usize,
+    ) -> Walked;
+}
+
+/// The buffers of one call.
+pub struct Lent {
+    pub patterns: Vec<u32>,
+    pub cells: Vec<u32>,
+    pub work: Vec<u32>,
+}
+
+impl Lent {
+    /// Room for so many words of patterns and cells, beside a pack of so many bytes.
+    pub fn new(pack: usize, patterns: usize, cells: usize) -> Self {
+        Lent {
+            patterns: vec![JUNK; patterns],
+            cells: vec![JUNK; cells],
+            work: vec![JUNK; 16 * (patterns + cells + pack) + 1024],
+        }
+    }
+
+    /// Pattern `p` of the list copied so many times, and the last copy read back.
+    pub fn copy(&mut self, asked: &Asked) -> Walked {
+        // SAFETY: six slices of their own, each with its own length.
+        unsafe {
+            copy_pattern(
+                asked.pack.as_ptr(),
+                asked.pack.len(),
+                asked.from.as_ptr(),
+                asked.from.len(),
+                asked.flex.as_ptr(),
+                asked.flex.len(),
+                asked.p,
+                asked.copies,
+                asked.read,
+                self.patterns.as_mut_ptr(),
+                self.patterns.len(),
+                self.cells.as_mut_ptr(),
+                self.cells.len(),
+                self.work.as_mut_ptr(),
+                self.work.len(),
+            )
+        }
+    }
+
+    fn class(&mut self, pack: &[u8], step: u64) -> Walked {
+        // SAFETY: four slices of their own, each with its own length.
+        unsafe {
+            single_class(
+                pack.as_ptr(),
+                pack.len(),
+                step,
+                self.patterns.as_mut_ptr(),
+                self.patterns.len(),
+                self.cells.as_mut_ptr(),
+                self.cells.len(),
+                self.work.as_mut_ptr(),
+                self.work.len(),
+            )
+        }
+    }
+
+    /// The answer and the patterns' words, and zeros behind them and elsewhere.
+    pub fn check(&self, answer: Walked, wanted: Walked, words: &[u32]) -> Result<(), String> {
+        if answer != wanted {
+            return Err(format!("{answer:?}, not {wanted:?}"));
+        }
+        let (ours, behind) = self.patterns.split_at(words.len());
+        if ours != words {
+            return Err(format!("patterns {ours:?}, not {words:?}"));
+        }
+        zeros("patterns", behind)?;
+        zeros("cells", &self.cells)?;
+        zeros("work", &self.work)
+    }
+
+    /// A refusal, and zeros.
+    fn check_refused(&self, answer: Walked, (code, at): (u64, u64)) -> Result<(), String> {
+        let wanted = Walked {
+            code,
+            at,
+            numbered: 0,
+            cells: 0,
+        };
+        self.check(answer, wanted, &[])
+    }
+}
+
+/// What is asked of `copy_pattern`.
+#[derive(Clone, Copy)]
+pub struct Asked<'a> {
+    pub pack: &'a [u8],
+    pub from: &'a [u32],
+    pub flex: &'a [u32],
+    pub p: u64,
+    pub copies: u64,
+    pub read: u64,
+}
+
+/// A store of distinct nodes: each a head and its arguments, or a variable's number and sort.
+#[derive(Clone, Default)]
+pub struct Store {
+    pub nodes: Vec<Vec<u32>>,
+    numbers: HashMap<Vec<u32>, u32>,
+}
+
+impl Store {
+    pub fn intern(&mut self, node: Vec<u32>) -> u32 {
+        let next = self.nodes.len() as u32;
+        let nodes = &mut self.nodes;
+        *self.numbers.entry(node).or_insert_with_key(|node| {
+            nodes.push(node.clone());
+            next
+        })
+    }
+
+    pub fn words(&self) -> Vec<u32> {
+        words(&self.nodes)
+    }
+
+    /// Pattern `p` with its variables numbered by first occurrence from the left.
+    fn renumber(&mut self, p: u32, seen: &mut HashMap<u32, u32>, numbered: &mut u32) -> u32 {
+        if let Some(&q) = seen.get(&p) {
+            return q;
+        }
+        let mut node = self.nodes[p as usize].clone();
+        if node[0] == VAR {
+            node[1] = *numbered;
+            *numbered += 1;
+        } else {
+            for a in &mut node[1..] {
+                *a = self.renumber(*a, seen, numbered);
+            }
+        }
+        let q = self.intern(node);
+        seen.insert(p, q);
+        q
+    }
+
+    /// The cells of one copy of `p`: a node for each distinct node of it.
+    pub fn cells(&self, p: u32) -> usize {
+        let mut seen = vec![false; self.nodes.len()];
+        let (mut left, mut cells) = (vec![p], 0);
+        while let Some(p) = left.pop() {
+            if std::mem::replace(&mut seen[p as usize], true) {
+                continue;
+            }
+            let node = &self.nodes[p as usize];
+            cells += 1;
+            if node[0] != VAR {
+                cells += node.len() - 1;
+                left.extend(&node[1..]);
+            }
+        }
+        cells
+    }
+}
+
+/// The words of nodes: for each a count, then head and arguments.
+pub fn words(nodes: &[Vec<u32>]) -> Vec<u32> {
+    let mut words = Vec::new();
+    for node in nodes {
+        words.push(node.len() as u32 - 1);
+        words.extend(node);
+    }
+    words
+}
+
+pub fn check(folder: &str) -> Result<String, String> {
+    let written = written()?;
+    let drawn = drawn()?;
+    refusals()?;
+    let (steps, classes) = recorded(folder)?;
+    Ok(format!(
+        "{written} written patterns and {drawn} drawn ones copied and read back, \
+         classes of {steps} recorded steps, {classes} of them beside a recorded class\n"
+    ))
+}
+
+/// The list's pattern `p` copied so many times; what comes back is as the plain renumbering has it.
+fn agree(nodes: &[Vec<u32>], p: u32, copies: usize, read: u64) -> Result<(), String> {
+    let mut store = Store::default();
+    for node in nodes {
+        store.intern(node.clone());
+    }
+    if p as usize >= store.nodes.len() {
+        return Err("no such pattern is drawn".into());
+    }
+    let cells = copies * store.cells(p);
+    let (mut at, mut numbered) = (0, 0);
+    if read != 0 && copies != 0 {
+        at = store.renumber(p, &mut HashMap::new(), &mut numbered);
+    }
+    let after = store.words();
+    let from = words(nodes);
+    let flex: Vec<u32> = (0..nodes.len() as u32).map(|k| k % 3).collect();
+    let asked = Asked {
+        pack: &[],
+        from: &from,
+        flex: &flex,
+        p: p.into(),
+        copies: copies as u64,
+        read,
+    };
+    let wanted = Walked {
+        code: DONE,
+        at: at.into(),
+        numbered: numbered.into(),
+        cells: cells as u64,
+    };
+    let mut lent = Lent::new(0, after.len(), cells);
+    let answer = lent.copy(&asked);
+    lent.check(answer, wanted, &after)?;
+    let mut lent = Lent::new(0, after.len() + 5, cells + 3);
+    let answer = lent.copy(&asked);
+    lent.check(answer, wanted, &after)
+        .map_err(|why| format!("with room to spare: {why}"))?;
+    let mut lent = Lent::new(0, after.len() - 1, cells);
+    let answer = lent.copy(&asked);
+    let wanted = match asked.flex.len() < after.len() {
+        true => (SHORT, PATTERNS),
+        false => LENGTHS,
+    };
+    lent.check_refused(answer, wanted)
+        .map_err(|why| format!("a word short: {why}"))?;
+    if cells != 0 {
+        let mut lent = Lent::new(0, after.len(), cells - 1);
+        let answer = lent.copy(&asked);
+        lent.check_refused(answer, (SHORT, CELLS))
+            .map_err(|why| format!("a cell short: {why}"))?;
+    }
+    Ok(())
+}
+
+fn written() -> Result<usize, String> {
+    let var = |number, sort| vec![VAR, number, sort];
+    let app = |head, args: &[u32]| [&[head], args].concat();
+    // Variables out of order, two of one number, shared parts, no arguments, and sixteen.
+    let mut doubled = vec![var(7, 0)];
+    for i in 0..40 {
+        doubled.push(app(1, &[i, i]));
+    }
+    let patterns: Vec<Vec<Vec<u32>>> = vec![
+        vec![var(0, 0)],
+        vec![var(3, 2), app(5, &[0, 0])],
+        vec![app(9, &[])],
+        vec![var(1, 0), var(0, 0), app(2, &[0, 1]), app(2, &[2, 0])],
+        vec![var(0, 1), var(0, 2), app(3, &[1, 0])],
+        vec![var(4, 0), app(1, &[0]), var(4, 0), app(6, &[0; 16])],
+        doubled,
+    ];
+    let mut count = 0;
+    for nodes in &patterns {
+        let mut store = Store::default();
+        for node in nodes {
+            store.intern(node.clone());
+        }
+        for p in 0..store.nodes.len() as u32 {
+            for copies in [0, 1, 3] {
+                for read in [0, 1, u64::MAX] {
+                    agree(nodes, p, copies, read)
+                        .map_err(|why| format!("pattern {p} of {nodes:?}: {why}"))?;
+                    count += 1;
+                }
+            }
+        }
+    }
+    // Deep ones, which a recursive walk would not come back from.
+    let deep = (0..200_000).map(|i| app(1, &[i]));
+    let nodes: Vec<Vec<u32>> = [var(0, 0)].into_iter().chain(deep).collect();
+    let store = words(&nodes);
+    let mut lent = Lent::new(0, store.len(), 400_001);
+    let answer = lent.copy(&Asked {
+        pack: &[],
+        from: &store,
+        flex: &[],
+        p: 200_000,
+        copies: 1,
+        read: 1,
+    });
+    let wanted = Walked {
+        code: DONE,
+        at: 200_000,
+        numbered: 1,
+        cells: 400_001,
+    };
+    lent.check(answer, wanted, &store)
+        .map_err(|why| format!("200,000 levels: {why}"))?;
+    Ok(count + 1)
+}
+
+fn drawn() -> Result<usize, String> {
+    const PATTERNS: usize = 5_000;
+    let mut numbers = Numbers::default();
+    for pattern in 0..PATTERNS {
+        let n = 1 + numbers.below(if pattern % 50 == 0 { 200 } else { 20 });
+        // Nodes over earlier ones of the store, which has each once.
+        let (mut nodes, mut store) = (Vec::new(), Store::default());
+        for _ in 0..n {
+            let node = draw(&mut numbers, store.nodes.len());
+            store.intern(node.clone());
+            nodes.push(node);
+        }
+        let p = numbers.below(store.nodes.len()) as u32;
+        let (copies, read) = (numbers.below(4), numbers.below(4) as u64);
+        agree(&nodes, p, copies, read)
+            .map_err(|why| format!("pattern {p} of {nodes:?}, {copies} copies: {why}"))?;
+    }
+    Ok(PATTERNS)
+}
+
+/// A node behind `earlier` others.
+fn draw(numbers: &mut Numbers, earlier: usize) -> Vec<u32> {
+    if earlier == 0 || numbers.below(3) == 0 {
+        return vec![VAR, numbers.below(6) as u32, numbers.below(2) as u32];
+    }
+    let arity = match numbers.below(20) {
+        0 => 16,
+        n => n % 4,
+    };
+    let mut node = vec![numbers.below(4) as u32];
+    node.extend((0..arity).map(|_| numbers.below(earlier) as u32));
+    node
+}
+
+/// Calls that are refused.
+fn refusals() -> Result<(), String> {
+    let nodes = [vec![VAR, 0, 0], vec![1, 0], vec![2, 1, 0]];
+    let from = words(&nodes);
+    let asked = Asked {
+        pack: &[],
+        from: &from,
+        flex: &[1],
+        p: 2,
+        copies: 2,
+        read: 1,
+    };
+    let ask = |what: &str, asked: Asked, wanted| {
+        let mut lent = Lent::new(asked.pack.len(), 40, 40);
+        let answer = lent.copy(&asked);
+        lent.check_refused(answer, wanted)
+            .map_err(|why| format!("{what}: {why}"))
+    };
+    ask("pattern 3 of 3", Asked { p: 3, ..asked }, NONE)?;
+    let most = u64::MAX;
+    ask("the largest pattern", Asked { p: most, ..asked }, NONE)?;
+    let copies = Asked {
+        copies: most,
+        ..asked
+    };
+    ask("as many copies as can be said", copies, (SHORT, CELLS))?;
+    let flex = [1; 41];
+    let marks = Asked {
+        flex: &flex,
+        ..asked
+    };
+    ask("more marks than words", marks, LENGTHS)?;
+    let lists: [(&str, &[u32]); 8] = [
+        ("one word", &[0]),
+        ("a count without its arguments", &[1, 5]),
+        ("an argument that is the node itself", &[1, 5, 0]),
+        ("an argument behind the node", &[2, VAR, 0, 0, 1, 5, 2]),
+        ("a variable of one word", &[1, VAR, 0]),
+        ("a variable of three words", &[3, VAR, 0, 0, 0]),
+        (
+            "seventeen arguments",
+            &[
+                2, VAR, 0, 0, 17, 5, 0, 0, 0, 0, 0, 0, 0, 0, 0, 0, 0, 0, 0, 0, 0, 0, 0,
+            ],
+        ),
+        ("the largest count", &[u32::MAX, 1, 0]),
+    ];
+    for (what, from) in lists {
+        ask(
+            what,
+            Asked {
+                from,
+                p: 0,
+                ..asked
+            },
+            NONE,
+        )?;
+    }
+    let pack = [0];
+    ask(
+        "a pack of one byte",
+        Asked {
+            pack: &pack,
+            ..asked
+        },
+        FORM,
+    )?;
+    let mut lent = Lent::new(0, 40, 40);
+    lent.work.pop();
+    let answer = lent.copy(&asked);
+    lent.check_refused(answer, (SHORT, WORK))
+        .map_err(|why| format!("a word of work less: {why}"))
+}
+
+/// What a rule's conclusion is read back as, into an empty store.
+fn conclusion(rule: &Rule) -> (Store, u32, u32) {
+    fn read(rule: &Rule, term: &Term, store: &mut Store, met: &mut HashMap<u32, u32>) -> u32 {
+        let node = match term {
+            Term::Var(k) => {
+                let next = met.len() as u32;
+                let number = *met.entry(*k).or_insert(next);
+                vec![VAR, number, rule.vars[*k as usize]]
+            }
+            Term::App(head, args) => {
+                let mut node = vec![*head];
+                for arg in args {
+                    node.push(read(rule, arg, store, met));
+                }
+                node
+            }
+        };
+        store.intern(node)
+    }
+    let (mut store, mut met) = (Store::default(), HashMap::new());
+    let at = read(rule, &rule.conclusion, &mut store, &mut met);
+    (store, at, met.len() as u32)
+}
+
+/// The cells of a rule's variables and of its conclusion, a node for each application written.
+fn written_cells(rule: &Rule) -> usize {
+    fn cells(term: &Term) -> usize {
+        match term {
+            Term::Var(_) => 0,
+            Term::App(_, args) => 1 + args.len() + args.iter().map(cells).sum::<usize>(),
+        }
+    }
+    rule.vars.len() + cells(&rule.conclusion)
+}
+
+fn recorded(folder: &str) -> Result<(usize, usize), String> {
+    let (mut steps, mut classes) = (0, 0);
+    for path in vectors::files(folder)? {
+        for case in vectors::read(&path)? {
+            let (s, c) =
+                check_case(&case).map_err(|why| format!("{path}: case {}: {why}", case.name))?;
+            steps += s;
+            classes += c;
+        }
+    }
+    match classes {
+        0 => Err(format!("{folder}: no classes of steps without premises")),
+        _ => Ok((steps, classes)),
+    }
+}
+
+/// The steps of a recorded pack: those without premises have the class of their rule, others none.
+fn check_case(case: &Case) -> Result<(usize, usize), String> {
+    // Of a large pack so many steps of one rule are asked for: each call reads all of it.
+    let each = match case.pack.len() > vectors::INLINE {
+        true => 3,
+        false => usize::MAX,
+    };
+    let pack = pack::decode(&case.pack).map_err(|why| format!("{why:?}"))?;
+    let mut of_rule = vec![0; pack.rules.len()];
+    let (mut steps, mut classes) = (0, 0);
+    for (s, step) in pack.steps.iter().enumerate() {
+        of_rule[step.rule as usize] += 1;
+        if of_rule[step.rule as usize] > each {
+            continue;
+        }
+        let at = |why: String| format!("step {s}: {why}");
+        let rule = &pack.rules[step.rule as usize];
+        if !rule.premises.is_empty() {
+            let mut lent = Lent::new(case.pack.len(), 9, 9);
+            let answer = lent.class(&case.pack, s as u64);
+            lent.check_refused(answer, NONE).map_err(at)?;
+            continue;
+        }
+        let (store, p, numbered) = conclusion(rule);
+        let (words, cells) = (store.words(), written_cells(rule));
+        let mut lent = Lent::new(case.pack.len(), words.len(), cells);
+        let answer = lent.class(&case.pack, s as u64);
+        let wanted = Walked {
+            code: DONE,
+            at: p.into(),
+            numbered: numbered.into(),
+            cells: cells as u64,
+        };
+        lent.check(answer, wanted, &words).map_err(at)?;
+        let mut lent = Lent::new(case.pack.len(), words.len() - 1, cells);
+        let answer = lent.class(&case.pack, s as u64);
+        lent.check_refused(answer, (SHORT, PATTERNS)).map_err(at)?;
+        let mut lent = Lent::new(case.pack.len(), words.len(), cells - 1);
+        let answer = lent.class(&case.pack, s as u64);
+        lent.check_refused(answer, (SHORT, CELLS)).map_err(at)?;
+        steps += 1;
+        if case.classes == "done" && beside(&pack, case, s, &store, p, numbered).map_err(at)? {
+            classes += 1;
+        }
+    }
+    let mut lent = Lent::new(case.pack.len(), 9, 9);
+    for s in [pack.steps.len() as u64, u64::MAX] {
+        let answer = lent.class(&case.pack, s);
+        lent.check_refused(answer, NONE)
+            .map_err(|why| format!("step {s}: {why}"))?;
+    }
+    Ok((steps, classes))
+}
+
+/// The recorded class of step `s`, if it has one of its rule, concludes the same term with as many
+/// variables, none of them flexible.
+fn beside(
+    pack: &Pack,
+    case: &Case,
+    s: usize,
+    store: &Store,
+    p: u32,
+    numbered: u32,
+) -> Result<bool, String> {
+    let class = case.class_words[s];
+    let head = pack.nodes[pack.steps[s].judgment as usize][0];
+    if class == u32::MAX || pack.cut(head).is_some() {
+        return Ok(false);
+    }
+    let mut at = pack.steps.len();
+    for _ in 0..class {
+        at += 3 + case.class_words[at + 2] as usize;
+    }
+    let variables = case.class_words[at + 2];
+    let flex = &case.class_words[at + 3..][..variables as usize];
+    if variables != numbered || flex.contains(&1) {
+        return Err(format!("{numbered} variables, and the class has {flex:?}"));
+    }
+    let theirs = nodes(&case.pattern_words);
+    match same(&theirs, case.class_words[at], &store.nodes, p) {
+        true => Ok(true),
+        false => Err("the recorded class concludes another term".into()),
+    }
+}
+
+/// The nodes that words hold.
+fn nodes(words: &[u32]) -> Vec<Vec<u32>> {
+    let (mut nodes, mut at) = (Vec::new(), 0);
+    while let Some(&count) = words.get(at) {
+        let end = at + 2 + count as usize;
+        nodes.push(words[at + 1..end].to_vec());
+        at = end;
+    }
+    nodes
+}
+
+/// Whether two patterns are the same term.
+fn same(left: &[Vec<u32>], x: u32, right: &[Vec<u32>], y: u32) -> bool {
+    let (a, b) = (&left[x as usize], &right[y as usize]);
+    if a[0] != b[0] || a.len() != b.len() {
+        return false;
+    }
+    if a[0] == VAR {
+        return a == b;
+    }
+    a[1..]
+        .iter()
+        .zip(&b[1..])
+        .all(|(&x, &y)| same(left, x, right, y))
+}
