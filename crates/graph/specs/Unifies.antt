@@ -19,6 +19,7 @@ use Rattle.theory.specs.Unification.Unify.{take-clashed, take-on, open-most}
 use Rattle.theory.specs.Unification.Join.{same-refl, join-joined, bind-joined}
 use Rattle.theory.specs.Unification.Pairs.{args-length}
 use Rattle.graph.specs.declared.graph.Graph.{Graph as Counts}
+use Rattle.graph.specs.declared.pairs.Pairs.{Pairs}
 use Rattle.graph.specs.declared.meet.Met.{Met}
 use Rattle.graph.specs.declared.meet.Met.the-variants.{On, Clash as Unlike}
 use Rattle.graph.specs.declared.unify.Outcome.{Outcome}
@@ -26,7 +27,7 @@ use Rattle.graph.specs.declared.unify.Outcome.the-variants.{Joined, Clas
 use Rattle.graph.specs.Cells.{startIn, linkWord, linkIn, graphIn, length-graphIn, rowsEnd, Shows, SameRows, rows-then, rows-set, shows-rows, Unchanged, unchanged-same, unchanged-then, unchanged-later, unchanged-set}
 use Rattle.graph.specs.Links.{Holds, Found, link-of, found-here}
 use Rattle.graph.specs.Pushes.{cells-shown}
-use Rattle.graph.specs.Pairs.{pairsEnd, pairsIn, length-pairsIn, pairs-same, PairsRoom, arity-of}
+use Rattle.graph.specs.Pairs.{pairsEnd, leftWord, rightWord, Topmost, pairsIn, length-pairsIn, pairs-same, PairsRoom, arity-of}
 use Rattle.graph.specs.Meets.{Rooted, Meets, meet-same, meet-left, meet-right, meet-rigid, meet-unlike, meet-alike}
 
 -- arguments are nodes
@@ -104,13 +105,6 @@ pub record Taking (words table : List ℕ) (s : Counts) (top taken : ℕ) (g₀ 
 
 pub many-nodes : (words table : List ℕ) (s : Counts) (g : Graph) → Shows words table s g → length g ≡ s .nodes
 many-nodes words table s g S = sym (S .like .long) ∙ length-graphIn words table (s .nodes)
-
--- the words of the pair behind top others
-abbrev pub leftWord : List ℕ → List ℕ → ℕ → ℕ
-leftWord words table top = getD table (rowsEnd words + 2 * top) 0
-
-abbrev pub rightWord : List ℕ → List ℕ → ℕ → ℕ
-rightWord words table top = getD table (rowsEnd words + 2 * top + 1) 0
 
 -- the first pair stands there
 pub taking-first : (words table : List ℕ) (s : Counts) (g : Graph) (x y : ℕ) → Shows words table s g → Inner g → x < s .nodes → y < s .nodes → leftWord words table 0 ≡ x → rightWord words table 0 ≡ y → Taking words table s 1 0 g x y
@@ -217,8 +211,9 @@ Ready words table s top = (g₀ : Graph) × (x y taken : ℕ) × Taking words ta
 
 abbrev pub Takes : List ℕ → List ℕ → List ℕ → Counts → ℕ → Met → Type 0
 Takes words table table′ s top (On more) =
-    ((g : Graph) → Shows words table s g → (h : Graph) × (meet g (root g (leftWord words table top)) (root g (rightWord words table top)) (pairsIn (rowsEnd words) table top) ≡ on h (pairsIn (rowsEnd words) table′ more)) × Shows words table′ s h)
+    ((g : Graph) → Shows words table s g → (h : Graph) × (meet g (root g (leftWord words table top)) (root g (rightWord words table top)) (pairsIn (rowsEnd words) table top) ≡ on h (pairsIn (rowsEnd words) table′ (more .top))) × Shows words table′ s h)
     × Unchanged (pairsEnd words) table table′
+    × Topmost words table′ more
 Takes words table table′ s top Unlike = ((g : Graph) → Shows words table s g → meet g (root g (leftWord words table top)) (root g (rightWord words table top)) (pairsIn (rowsEnd words) table top) ≡ clashed) × Unchanged (pairsEnd words) table table′
 
 -- the pair stands there, and its nodes are nodes
@@ -236,6 +231,10 @@ module _ (words table : List ℕ) (s : Counts) (top : ℕ) (R : Ready words tabl
 
   pub cells-small : length words < 4294967295
   cells-small = R .4 .shows .laid .small
+
+-- a node found is found by whatever else it is
+pub found-as : (words table table′ : List ℕ) (s : Counts) (x y r : ℕ) → x ≡ y → Found words table table′ s x r → Found words table table′ s y r
+found-as words table table′ s x y r e F = subst (λ (k : ℕ). Found words table table′ s k r) e F
 
 module _ (words table mid table′ : List ℕ) (s : Counts) (top l r : ℕ) (F : Found words table mid s (leftWord words table top) l) (E : Found words mid table′ s (rightWord words table top) r) where
   -- what was held is held still, and the pairs stand there still
@@ -272,8 +271,8 @@ module _ (words table mid table′ : List ℕ) (s : Counts) (top l r : ℕ) (F :
   beyond : (table″ : List ℕ) → Unchanged (pairsEnd words) table′ table″ → Unchanged (pairsEnd words) table table″
   beyond table″ U = unchanged-then (pairsEnd words) table table′ table″ (unchanged-later (rowsEnd words) (pairsEnd words) table table′ (omega arith) untouched) U
 
-  turn-on : (table″ : List ℕ) (more : ℕ) → Meets words table′ table″ s top l r (On more) → Takes words table table″ s top (On more)
-  turn-on table″ more M = (λ g S. let m = M .0 g (still g S) in (m .0, roots-meet g S ∙ m .1, m .2), beyond table″ (M .1))
+  turn-on : (table″ : List ℕ) (more : Pairs) → Meets words table′ table″ s top l r (On more) → Takes words table table″ s top (On more)
+  turn-on table″ more M = (λ g S. let m = M .0 g (still g S) in (m .0, roots-meet g S ∙ m .1, m .2), beyond table″ (M .1), M .2)
 
   turn-unlike : (table″ : List ℕ) → Meets words table′ table″ s top l r Unlike → Takes words table table″ s top Unlike
   turn-unlike table″ M = (λ g S. roots-meet g S ∙ M .0 g (still g S), beyond table″ (M .1))
@@ -291,6 +290,10 @@ pub record Going (words before table : List ℕ) (s : Counts) (top taken x y : �
 pub going-at : (words before table : List ℕ) (s : Counts) (top taken x y : ℕ) → 0 < top → Going words before table s top taken x y → Going words before table s (suc (top - 1)) taken x y
 going-at words before table s top taken x y h G = let e : top ≡ suc (top - 1) = omega arith in subst (λ (k : ℕ). Going words before table s k taken x y) e G
 
+-- it is the topmost
+pub topmost-at : (words table : List ℕ) (p : Pairs) → 0 < p .top → Topmost words table p → (p .left .0 ≡ leftWord words table (p .top - 1)) × (p .right .0 ≡ rightWord words table (p .top - 1))
+topmost-at words table p h T = T (p .top - 1) (omega arith)
+
 abbrev pub HoldsInner : List ℕ → List ℕ → Counts → Type 0
 HoldsInner words table s = (g : Graph) × Shows words table s g × Inner g
 
@@ -302,12 +305,12 @@ module _ (words before table : List ℕ) (s : Counts) (top taken x y : ℕ) (G :
   pub going-few : taken ≤ s .used
   going-few = let T = G .state (H .0) (H .1) (H .2) in omega (arith, T .enough, T .most)
 
-  pub going-on : (table′ : List ℕ) (more : ℕ) → Takes words table table′ s top (On more) → Going words before table′ s more (taken + 1) x y
+  pub going-on : (table′ : List ℕ) (more : Pairs) → Takes words table table′ s top (On more) → Going words before table′ s (more .top) (taken + 1) x y
   going-on table′ more M = record {
     state = λ g S I.
         let T = G .state g S I in
         let m = M .0 (T .graph) (T .shows) in
-        taking-on words table s top taken g x y T table′ more (m .0) (m .1) (m .2);
+        taking-on words table s top taken g x y T table′ (more .top) (m .0) (m .1) (m .2);
     beyond = unchanged-then (pairsEnd words) before table table′ (G .beyond) (M .1);
   }
 
@@ -335,17 +338,24 @@ module _ (words table : List ℕ) (s : Counts) (x y : ℕ) (room : pairsEnd word
   pub first-held : HoldsInner words table s → HoldsInner words firstPair s
   first-held H = (H .0, shows-rows words table firstPair s (H .0) first-rows (H .1), H .2)
 
+  first-left : leftWord words firstPair 0 ≡ x
+  first-left =
+      let e : at + 2 * 0 ≡ at = omega arith in
+      ap (λ (i : ℕ). getD firstPair i 0) e ∙ getD-set-other (set table at x) (at + 1) at y 0 (λ e. omega arith) ∙ getD-set-same table at x 0 (omega (arith, room))
+
+  first-right : rightWord words firstPair 0 ≡ y
+  first-right =
+      let e : at + 2 * 0 + 1 ≡ at + 1 = omega arith in
+      ap (λ (i : ℕ). getD firstPair i 0) e ∙ getD-set-same (set table at x) (at + 1) y 0 (omega (arith, room, length-set table at x))
+
   pub going-first : x < s .nodes → y < s .nodes → Going words firstPair firstPair s 1 0 x y
-  going-first lx ly =
-      let left : at + 2 * 0 ≡ at = omega arith in
-      let right : at + 2 * 0 + 1 ≡ at + 1 = omega arith in
-      record {
-        state = λ g S I.
-            taking-first words firstPair s g x y S I lx ly
-            (ap (λ (i : ℕ). getD firstPair i 0) left ∙ getD-set-other (set table at x) (at + 1) at y 0 (λ e. omega arith) ∙ getD-set-same table at x 0 (omega (arith, room)))
-            (ap (λ (i : ℕ). getD firstPair i 0) right ∙ getD-set-same (set table at x) (at + 1) y 0 (omega (arith, room, length-set table at x)));
-        beyond = unchanged-same (pairsEnd words) firstPair;
-      }
+  going-first lx ly = record { state = λ g S I. taking-first words firstPair s g x y S I lx ly first-left first-right; beyond = unchanged-same (pairsEnd words) firstPair }
+
+  -- it is the topmost
+  pub first-topmost : (p : Pairs) → p .top ≡ 1 → p .left .0 ≡ x → p .right .0 ≡ y → Topmost words firstPair p
+  first-topmost p k a b t e =
+      let z : t ≡ 0 = omega (arith, k, e) in
+      (a ∙ sym first-left ∙ ap (leftWord words firstPair) (sym z), b ∙ sym first-right ∙ ap (rightWord words firstPair) (sym z))
 
   first-beyond : (table′ : List ℕ) → Unchanged (pairsEnd words) firstPair table′ → Unchanged (pairsEnd words) table table′
   first-beyond table′ U = unchanged-then (pairsEnd words) table firstPair table′

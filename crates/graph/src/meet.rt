@@ -1,15 +1,17 @@
 // Two roots meet.
 use crate::graph::Graph;
+use crate::pairs::Pairs;
 use crate::pairs::push_pairs;
+use crate::pairs::top_pair;
 use base::id::Node;
 use base::id::Pattern;
 ghost use Rattle.graph.specs.Links.{Holds};
 ghost use Rattle.graph.specs.Pairs.{PairsRoom};
 ghost use Rattle.graph.specs.Meets.{Rooted, Meets};
 
-// So many pairs are left to be taken, or the two clash.
+// These pairs are left to be taken, or the two clash.
 pub enum Met {
-    On(usize),
+    On(Pairs),
     Clash,
 }
 
@@ -19,15 +21,15 @@ pub fn meet(g: Graph, cells: &[u32], table: &mut [u32], top: usize, x: Node, y: 
     ensures { λ r. ⌜ Meets (now (cells .entry)) (now (table .entry)) (now (table .exit)) g top (x .0) (y .0) r ⌝ }
 {
     if x.0 == y.0 {
-        return Met::On(top);
+        return Met::On(top_pair(cells, table, top));
     }
     if g.is_free(cells, table, x) {
         g.bind(cells, table, x, y);
-        return Met::On(top);
+        return Met::On(top_pair(cells, table, top));
     }
     if g.is_free(cells, table, y) {
         g.bind(cells, table, y, x);
-        return Met::On(top);
+        return Met::On(top_pair(cells, table, top));
     }
     let head = g.head(cells, table, x);
     if head == Pattern::VAR {

@@ -2,10 +2,12 @@
 use crate::graph::Graph;
 use crate::meet::Met;
 use crate::meet::meet;
+use crate::pairs::Pairs;
 use base::id::Node;
+ghost use mathlib.Core.Path.{_≡_};
 ghost use Prim.Native.Nat.{_<_, _≤_};
 ghost use lib.ListN.{length};
-ghost use Rattle.graph.specs.Pairs.{pairsEnd};
+ghost use Rattle.graph.specs.Pairs.{pairsEnd, leftWord, rightWord};
 ghost use Rattle.graph.specs.Unifies.{Ready, Takes, HoldsInner, Unifies};
 
 // The two are joined, or clash; and how many pairs were taken.
@@ -14,14 +16,11 @@ pub enum Outcome {
     Clash(usize),
 }
 
-// The pair behind `top` others is taken: the roots of its two nodes meet.
-fn take_pair(g: Graph, cells: &[u32], table: &mut [u32], top: usize) -> Met
-    requires { ⌜ Ready (now cells) (now table) g top × (pairsEnd (now cells) ≤ length (now table)) ⌝ }
+// The pair behind `top` others is taken: the roots of its two nodes, `x` and `y`, meet.
+fn take_pair(g: Graph, cells: &[u32], table: &mut [u32], top: usize, x: Node, y: Node) -> Met
+    requires { ⌜ Ready (now cells) (now table) g top × (pairsEnd (now cells) ≤ length (now table)) × (x .0 ≡ leftWord (now cells) (now table) top) × (y .0 ≡ rightWord (now cells) (now table) top) ⌝ }
     ensures { λ r. ⌜ Takes (now (cells .entry)) (now (table .entry)) (now (table .exit)) g top r ⌝ }
 {
-    let at = 5 * cells.len() + 5 + 2 * top;
-    let x = Node(table[at]);
-    let y = Node(table[at + 1]);
     let left = g.find(cells, table, x);
     let right = g.find(cells, table, y);
     meet(g, cells, table, top, left, right)
@@ -35,12 +34,16 @@ pub fn unify(g: Graph, cells: &[u32], table: &mut [u32], x: Node, y: Node) -> Ou
     let rows = 5 * cells.len() + 5;
     table[rows] = x.0;
     table[rows + 1] = y.0;
-    let mut top: usize = 1;
+    let mut p = Pairs {
+        top: 1,
+        left: x,
+        right: y,
+    };
     let mut taken: usize = 0;
-    while 0 < top {
-        match take_pair(g, cells, table, top - 1) {
+    while 0 < p.top {
+        match take_pair(g, cells, table, p.top - 1, p.left, p.right) {
             Met::On(more) => {
-                top = more;
+                p = more;
                 taken += 1;
             }
             Met::Clash => {
