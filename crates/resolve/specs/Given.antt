@@ -222,5 +222,6 @@ module _ (bytes work words cells : List ℕ) (c : Catalog) (l : Lifted) (t : Tab
   framed-set P h vs L i v high = record {
     long = length-set work (t .at + i) v;
     ahead = λ j a. getD-set-other work (t .at + i) j v 0 (λ e. omega (arith, e, L .apart, L .lifts .laid .fits));
+    between = λ j a b. getD-set-other work (t .at + i) j v 0 (λ e. omega (arith, e));
     behind = λ j a. getD-set-other work (t .at + i) j v 0 (λ e. omega (arith, e));
   }

@@ -85,7 +85,7 @@ module _ (bytes work words cells : List ℕ) (c : Catalog) (l : Lifted) (t : Tab
 
     -- nothing else of work has changed
     pub framed-moves : Framed cells work work′ l t
-    framed-moves = record { long = M .long; ahead = λ i p. M .ahead i (omega (arith, L .apart, L .lifts .laid .fits)); behind = λ i p. M .behind i (omega arith) }
+    framed-moves = record { long = M .long; ahead = λ i p. M .ahead i (omega (arith, L .apart, L .lifts .laid .fits)); between = λ i p q. M .ahead i q; behind = λ i p. M .behind i (omega arith) }
 
     -- the pack's tables have not
     moved-tables : Same work work′ c
@@ -151,7 +151,7 @@ module _ (bytes work words cells : List ℕ) (c : Catalog) (l : Lifted) (t : Tab
 
   -- nothing else of work has changed
   pub framed-apart : Framed cells work work′ l t
-  framed-apart = record { long = A .long; ahead = A .ahead; behind = λ i p. A .beyond i (omega (arith, L .apart)) }
+  framed-apart = record { long = A .long; ahead = A .ahead; between = λ i p q. A .beyond i p; behind = λ i p. A .beyond i (omega (arith, L .apart)) }
 
 -- ---- one step after another
 -- nothing was written
@@ -164,11 +164,11 @@ moves-then cells work work′ work″ t g A B = record { long = B .long ∙ A .l
 
 -- nothing was written
 pub framed-none : (cells work : List ℕ) (l : Lifted) (t : Table) → Framed cells work work l t
-framed-none cells work l t = record { long = refl; ahead = λ i p. refl; behind = λ i p. refl }
+framed-none cells work l t = record { long = refl; ahead = λ i p. refl; between = λ i p q. refl; behind = λ i p. refl }
 
 -- two steps
 pub framed-then : (cells work work′ work″ : List ℕ) (l : Lifted) (t : Table) → Framed cells work work′ l t → Framed cells work′ work″ l t → Framed cells work work″ l t
-framed-then cells work work′ work″ l t A B = record { long = B .long ∙ A .long; ahead = λ i p. B .ahead i p ∙ A .ahead i p; behind = λ i p. B .behind i p ∙ A .behind i p }
+framed-then cells work work′ work″ l t A B = record { long = B .long ∙ A .long; ahead = λ i p. B .ahead i p ∙ A .ahead i p; between = λ i p q. B .between i p q ∙ A .between i p q; behind = λ i p. B .behind i p ∙ A .behind i p }
 
 -- a word of the stack is written
 pub moves-set : (cells work : List ℕ) (t : Table) (g : Counts) → t .at + tableEnd cells ≤ t .end → (i v : ℕ) → rowsEnd cells ≤ i → i < valuesAt cells → Moves cells work (set work (t .at + i) v) t g

@@ -100,10 +100,11 @@ pub record Ready (bytes work words cells : List ℕ) (c : Catalog) (l : Lifted) 
   pub state : Resolving
   pub holding : Holding bytes work words cells c l t st g n everyone pack graph values state
 
--- nothing ahead of lifting's words has changed, nor behind the table's
+-- nothing ahead of lifting's words has changed, nor between them and the table, nor behind the table's
 pub record Framed (cells work work′ : List ℕ) (l : Lifted) (t : Table) : Type 0 where
   pub long : length work′ ≡ length work
   pub ahead : (i : ℕ) → i < l .at → getD work′ i 0 ≡ getD work i 0
+  pub between : (i : ℕ) → l .end ≤ i → i < t .at → getD work′ i 0 ≡ getD work i 0
   pub behind : (i : ℕ) → t .at + tableEnd cells ≤ i → getD work′ i 0 ≡ getD work i 0
 
 -- only rows and stack were written, and the graph is held still

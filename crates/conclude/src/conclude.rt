@@ -1,0 +1,109 @@
+// The conclusion of a step's rule, behind its premises: put into the graph and read back.
+use crate::top::Back;
+use crate::top::read_back;
+use base::id::Node;
+use catalog::whole::Catalog;
+use fixed::count::count_fixed;
+use graph::graph::Graph;
+use graph::graph::Pushed;
+use instantiate::terms::Place;
+use instantiate::terms::instantiate;
+use pack::rule::pass_terms;
+use premise::layout::Layout;
+use resolve::words::Table;
+use store::nodes::Store;
+ghost use Rattle.conclude.specs.Top.{Topping};
+ghost use Rattle.conclude.specs.Counted.{TopReads};
+ghost use Rattle.conclude.specs.Concludes.{Concluding, Concludes};
+
+// A rule and how many variables it has; the word of it that its conclusion starts with; how many variables of copies are noted.
+pub struct Ending {
+    pub rule: usize,
+    pub vars: usize,
+    pub from: usize,
+    pub copies: usize,
+}
+
+// What was read: the conclusion's pattern, how many variables are numbered, and what figures count.
+pub struct Concluded {
+    pub pattern: u32,
+    pub numbered: usize,
+    pub entries: usize,
+    pub renamings: usize,
+    pub fixed: usize,
+}
+
+// The graph and the store as they are then, and what was read; or the cells have no room; or the words have none.
+pub enum Conclusion {
+    Read(Graph, Store, Concluded),
+    ShortGraph,
+    ShortPatterns,
+}
+
+// Node `x` and so many variables of copies read back, and the fixed variables counted; nodes from `before` on have no value.
+fn read_top(
+    pack: &[u8],
+    work: &mut [u32],
+    words: &mut [u32],
+    cells: &[u32],
+    c: Catalog,
+    l: Layout,
+    st: Store,
+    before: usize,
+    g: Graph,
+    x: Node,
+    copies: usize,
+) -> Conclusion
+    requires { ⌜ Topping (now pack) (now work) (now words) (now cells) c l st before g (x .0) copies ⌝ }
+    ensures { λ r. ⌜ TopReads (now (pack .entry)) (now (work .entry)) (now (words .entry)) (now (work .exit)) (now (words .exit)) (now (cells .entry)) c l st before g (x .0) copies r ⌝ }
+{
+    match read_back(pack, work, words, cells, c, l, st, before, g, x, copies) {
+        Back::Read(more, p, n, k) => {
+            let t = Table {
+                at: l.graph,
+                end: l.end,
+            };
+            let fixed = count_fixed(work, cells, t, g, n);
+            let read = Concluded {
+                pattern: p.0,
+                numbered: n,
+                entries: copies,
+                renamings: k,
+                fixed: fixed,
+            };
+            Conclusion::Read(g, more, read)
+        }
+        Back::Short => Conclusion::ShortPatterns,
+    }
+}
+
+// The conclusion's instance is put into the graph and read back, then the variables of the copies.
+pub fn conclude(
+    pack: &[u8],
+    work: &mut [u32],
+    words: &mut [u32],
+    cells: &mut [u32],
+    c: Catalog,
+    l: Layout,
+    st: Store,
+    g: Graph,
+    env: &[u32],
+    q: Ending,
+) -> Conclusion
+    requires { ⌜ Concluding (now pack) (now work) (now words) (now cells) c l st g (now env) q ⌝ }
+    ensures { λ r. ⌜ Concludes (now (pack .entry)) (now (work .entry)) (now (words .entry)) (now (cells .entry)) (now (work .exit)) (now (words .exit)) (now (cells .exit)) c l st g (now (env .entry)) q r ⌝ }
+{
+    let to = pass_terms(pack, work, c, q.rule, q.vars, q.from, 1);
+    let place = Place {
+        rule: q.rule,
+        vars: q.vars,
+        at: l.graph,
+        end: l.end,
+    };
+    match instantiate(pack, work, cells, c, place, g, env, q.from, to) {
+        Pushed::At(x, h) => {
+            read_top(pack, work, words, cells, c, l, st, g.nodes, h, x, q.copies)
+        }
+        Pushed::Short => Conclusion::ShortGraph,
+    }
+}
