@@ -11,8 +11,8 @@ use Rattle.base.specs.Zero.{zeros-long, zeros-there, zeros-before, zeros-behind
 use Rattle.graph.specs.declared.graph.Graph.{Graph as Counts}
 use Rattle.graph.specs.Cells.{rowsEnd, Laid, nodes-few, Shows, SameRows, rows-set, shows-rows, laid-rows, Unchanged, unchanged-same, unchanged-then, unchanged-set}
 use Rattle.graph.specs.Links.{Found}
-use Rattle.graph.specs.Pairs.{ArityOf}
-use Rattle.graph.specs.Unifies.{HoldsInner}
+use Rattle.graph.specs.Nodes.{ArityOf}
+use Rattle.graph.specs.Inner.{HoldsInner}
 use Rattle.circle.specs.declared.walk.Turn.{Turn}
 use Rattle.circle.specs.declared.walk.Turn.the-variants.{On, Circle}
 use Rattle.circle.specs.Paths.{colourOf, nodeAt, lookedAt}

@@ -10,7 +10,7 @@ use Rattle.base.specs.Part.{part, part-at, length-part, part-same, part-set, pa
 use Rattle.graph.specs.declared.graph.Graph.{Graph as Counts}
 use Rattle.graph.specs.Cells.{rowsEnd, Laid, Shows, SameRows, rows-set, rows-then, laid-rows, shows-rows, Unchanged, unchanged-same, unchanged-then, unchanged-later, unchanged-set}
 use Rattle.graph.specs.Links.{Found}
-use Rattle.graph.specs.Pairs.{ArgumentOf}
+use Rattle.graph.specs.Nodes.{ArgumentOf}
 use Rattle.circle.specs.declared.walk.Seen.{Seen}
 use Rattle.circle.specs.declared.walk.Seen.the-variants.{Ends, Deeper, Circle as Met}
 use Rattle.circle.specs.declared.walk.Turn.{Turn}

@@ -40,7 +40,7 @@ use Rattle.graph.specs.declared.graph.Graph.{Graph as Counts}
 use Rattle.graph.specs.declared.graph.Pushed.the-variants.{At, Short as Full}
 use Rattle.graph.specs.Cells.{rowsEnd, Shows, nodes-few}
 use Rattle.graph.specs.Pushes.{cells-shown}
-use Rattle.graph.specs.Unifies.{many-nodes}
+use Rattle.graph.specs.Inner.{many-nodes}
 use Rattle.copy.specs.Held.{Patterns}
 use Rattle.instantiate.specs.Building.{Spells, Asked, Instantiates}
 use Rattle.premise.specs.Layout.{placeOf, tableIn, copiesAt, Laid}

@@ -31,7 +31,7 @@ use Rattle.store.specs.Recall.{recall, length-recall, Remembers}
 use Rattle.store.specs.declared.nodes.Store.{Store}
 use Rattle.store.specs.declared.memo.Memo.{Memo}
 use Rattle.graph.specs.Cells.{Shows}
-use Rattle.graph.specs.Unifies.{inner-more}
+use Rattle.graph.specs.Inner.{inner-more}
 use Rattle.copy.specs.declared.walk.Copying.{Copying}
 use Rattle.copy.specs.Held.{indexIn, tableIn, rowsAt, rowsIn, Apart, Room, Patterns, marksIn, valueIn, orZero, copyIn, wordOf, Holding, Beside}
 use Rattle.copy.specs.Steps.{Outside, noted, vertexFor, numberFor, Key, Finished, Unfinished}

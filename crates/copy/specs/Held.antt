@@ -21,7 +21,7 @@ use Rattle.store.specs.Recall.{recall, Remembers}
 use Rattle.store.specs.declared.nodes.Store.{Store}
 use Rattle.store.specs.declared.memo.Memo.{Memo}
 use Rattle.graph.specs.Cells.{markIn, rowsEnd, Shows}
-use Rattle.graph.specs.Unifies.{Inner, HoldsInner}
+use Rattle.graph.specs.Inner.{Inner, HoldsInner}
 use Rattle.copy.specs.declared.walk.Copying.{Copying}
 use Rattle.copy.specs.declared.walk.Copied.{Copied}
 use Rattle.copy.specs.declared.walk.Copied.the-variants as answers

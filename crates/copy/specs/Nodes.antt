@@ -15,7 +15,7 @@ use Rattle.store.specs.Recall.{recall, Remembers}
 use Rattle.store.specs.declared.memo.Memo.{Memo}
 use Rattle.graph.specs.Cells.{markIn, nodes-few}
 use Rattle.graph.specs.Links.{Holds}
-use Rattle.graph.specs.Unifies.{many-nodes}
+use Rattle.graph.specs.Inner.{many-nodes}
 use Rattle.graph.specs.Pushes.{Pushes}
 use Rattle.graph.specs.declared.graph.Pushed.{Pushed}
 use Rattle.graph.specs.declared.graph.Pushed.the-variants.{At, Short}

@@ -19,8 +19,8 @@ use Rattle.store.specs.Stored.{Stored, nodes}
 use Rattle.store.specs.Recall.{recall}
 use Rattle.store.specs.declared.nodes.Store.{Store}
 use Rattle.store.specs.declared.memo.Memo.{Memo}
-use Rattle.graph.specs.Cells.{startIn, Shows, rowsEnd, nodes-few, graph-kept}
-use Rattle.graph.specs.Unifies.{Inner}
+use Rattle.graph.specs.Cells.{restAt, startIn, Shows, rowsEnd, nodes-few, graph-kept}
+use Rattle.graph.specs.Inner.{Inner}
 use Rattle.copy.specs.declared.walk.Copying.{Copying}
 use Rattle.copy.specs.declared.walk.Turn.{Turn}
 use Rattle.copy.specs.declared.walk.Turn.the-variants as turns
@@ -37,8 +37,8 @@ pub shows-by : (words table table′ : List ℕ) (s : Counts) (g : Graph) → ro
 shows-by words table table′ s g wide same S =
     let L = S .laid in
     let few = nodes-few words table s L in
-    let start : (i : ℕ) → i ≤ s .nodes → startIn table′ i ≡ startIn table i = λ i h. same (5 * i) (omega (arith, few, L .fits)) in
-    let e = graph-kept words table words table′ s L refl (λ i h. same i (omega (arith, few, L .fits))) (λ i h. refl) (s .nodes) (omega arith) in
+    let start : (i : ℕ) → i ≤ s .nodes → startIn table′ i ≡ startIn table i = λ i h. same (2 * i) (omega (arith, few, L .fits)) in
+    let e = graph-kept words table words table′ s L refl (λ i h. same i (omega (arith, few, L .fits))) (λ i h. same (restAt words + i) (omega (arith, few, L .fits))) (λ i h. refl) (s .nodes) (omega arith) in
     record {
       laid = record {
         wide = wide;

@@ -19,9 +19,9 @@ use Rattle.theory.specs.Walks.Ahead.{beside, lefts, rights}
 use Rattle.theory.specs.Walks.Valuing.{valuing, pairsLeft, total-cells, left-most}
 use Rattle.graph.specs.declared.graph.Graph.{Graph as Counts}
 use Rattle.graph.specs.Cells.{rowsEnd}
-use Rattle.graph.specs.Pairs.{pairsIn, pairs-more}
+use Rattle.graph.specs.Stack.{pairsIn, pairs-more}
 use Rattle.graph.specs.Pushes.{cells-shown}
-use Rattle.graph.specs.Unifies.{many-nodes}
+use Rattle.graph.specs.Inner.{many-nodes}
 use Rattle.fix.specs.declared.words.Valued.{Valued}
 use Rattle.fix.specs.declared.walk.Turn.the-variants.{On, Unlike}
 use Rattle.fix.specs.declared.walk.Fixed.{Fixed}

@@ -22,7 +22,8 @@ use Rattle.theory.specs.Walks.Valuing.{valuing, takeValue}
 use Rattle.graph.specs.declared.graph.Graph.{Graph as Counts}
 use Rattle.graph.specs.Cells.{rowsEnd, Shows, rows-set, shows-rows}
 use Rattle.graph.specs.Joins.{HeadOf, head-variable, head-other}
-use Rattle.graph.specs.Pairs.{ArityOf, pairsIn, pairs-kept}
+use Rattle.graph.specs.Nodes.{ArityOf}
+use Rattle.graph.specs.Stack.{pairsIn, pairs-kept}
 use Rattle.fix.specs.declared.words.Valued.{Valued}
 use Rattle.fix.specs.declared.words.Known.the-variants.{Nothing}
 use Rattle.fix.specs.declared.walk.Turn.{Turn}

@@ -17,7 +17,8 @@ use Rattle.pack.specs.Held.{reads-on}
 use Rattle.theory.specs.Walks.Ahead.{beside, ahead, ahead-turn, ahead-all, ahead-none}
 use Rattle.graph.specs.declared.graph.Graph.{Graph as Counts}
 use Rattle.graph.specs.Cells.{startIn, rowsEnd}
-use Rattle.graph.specs.Pairs.{ArityOf, ArgumentOf, pairsIn, pairs-more, argument-there}
+use Rattle.graph.specs.Nodes.{ArityOf, ArgumentOf, argument-there}
+use Rattle.graph.specs.Stack.{pairsIn, pairs-more}
 use Rattle.fix.specs.declared.words.Valued.{Valued}
 use Rattle.fix.specs.Words.{tableIn, Stands, Framed, Values, Says, stands-pair, table-room, framed-none, framed-then, framed-same, values-on}
 use Rattle.fix.specs.Stores.{PutsPair}

@@ -20,8 +20,8 @@ use Rattle.theory.specs.Walks.Ahead.{lefts, rights}
 use Rattle.theory.specs.Walks.Valuing.{valuing, takeValue, pairsLeft}
 use Rattle.graph.specs.declared.graph.Graph.{Graph as Counts}
 use Rattle.graph.specs.Cells.{rowsEnd}
-use Rattle.graph.specs.Pairs.{leftWord, rightWord, pairsIn, length-pairsIn, pairs-same}
-use Rattle.graph.specs.Unifies.{many-nodes}
+use Rattle.graph.specs.Stack.{leftWord, rightWord, pairsIn, length-pairsIn, pairs-same}
+use Rattle.graph.specs.Inner.{many-nodes}
 use Rattle.fix.specs.declared.words.Valued.{Valued}
 use Rattle.fix.specs.declared.words.Known.the-variants.{Nothing}
 use Rattle.fix.specs.declared.walk.Turn.{Turn}

@@ -18,8 +18,8 @@ use Rattle.theory.specs.Walks.Ahead.{beside}
 use Rattle.theory.specs.Walks.Valuing.{valuing, takeValue, Taken, take-says}
 use Rattle.graph.specs.declared.graph.Graph.{Graph as Counts}
 use Rattle.graph.specs.Cells.{markIn, graphIn, rowsEnd}
-use Rattle.graph.specs.Pairs.{leftWord, rightWord, pairsIn, length-pairsIn}
-use Rattle.graph.specs.Unifies.{many-nodes}
+use Rattle.graph.specs.Stack.{leftWord, rightWord, pairsIn, length-pairsIn}
+use Rattle.graph.specs.Inner.{many-nodes}
 use Rattle.fix.specs.Words.{valuesAt, wordOf, Stands}
 use Rattle.fix.specs.Taking.{take-rights}
 use Rattle.fix.specs.Takes.{Left}

@@ -5,8 +5,7 @@ use mathlib.Core.List.{List}
 use mathlib.Core.Option.{Option, none, some}
 use Prim.Native.Nat.{ℕ, zero, suc, _+_, _*_, _≤_, _<_}
 use native.Mathlib.Omega.{arith}
-use borrow.Author.Tests.{lt-ltb, eq-eqb, ne-eqb}
-use lib.Dec.{eqb, ltb}
+use lib.Dec.{eqb}
 use lib.ListN.{length, getD}
 use Rattle.definition.specs.Test.{never, any, _and_}
 use Rattle.definition.specs.Verdict.{Bound, valueOf}
@@ -14,15 +13,14 @@ use Rattle.definition.specs.Store.{variableHead}
 use Rattle.definition.specs.Graph.{Graph, vertex, root, isVar, upTo}
 use Rattle.definition.specs.Analysis.{numberOf}
 use Rattle.definition.specs.Classes.{countOf, isSome, isFixed, mark}
-use Rattle.theory.specs.Unification.Forest.{root-self}
-use Rattle.theory.specs.Unification.Like.{own-root}
+use Rattle.frame.specs.Name.{denied, not-denied}
 use Rattle.graph.specs.declared.graph.Graph.{Graph as Counts}
-use Rattle.graph.specs.Cells.{linkIn, graphIn, length-graphIn, Shows, nodes-few}
-use Rattle.graph.specs.Links.{link-of}
+use Rattle.graph.specs.Cells.{Shows, nodes-few}
 use Rattle.graph.specs.Joins.{HeadOf, head-variable, head-other}
 use Rattle.resolve.specs.Words.{valuesAt, tableEnd, tableIn, wordOf, Stands}
 use Rattle.resolve.specs.Moved.{table-at}
-use Rattle.resolve.specs.Asked.{graph-long, flex-of}
+use Rattle.graph.specs.Nodes.{FlexOf, RootOf}
+use Rattle.resolve.specs.Asked.{graph-long}
 use Rattle.resolve.specs.declared.words.Table.{Table}
 use Rattle.kept.specs.Numbers.{number-any, count-next}
 use Rattle.fixed.specs.Marks.{coloursAt, colourIn}
@@ -140,48 +138,18 @@ module _ (work cells : List ℕ) (t : Table) (g : Counts) (x : ℕ) (low : x < g
   abbrev S : Shows cells (tableIn t work) g h
   S = C .stands .shows
 
-  -- it is a node
-  inside : x < length h
-  inside = omega (arith, graph-long cells table g h S)
-
-  -- also by its own links
-  inside-own : x < length (graphIn cells (tableIn t work) (g .nodes))
-  inside-own = omega (arith, length-graphIn cells table (g .nodes))
-
-  -- its link
-  pub linked : (w : ℕ) → w ≡ getD (tableIn t work) (5 * x + 1) 0 → (w ≡ 0 → ⊥) → 0 ≡ mark (isFixed h vs xs x)
-  linked w e d =
-      let f : eqb (root h x) x ≡ false = ne-eqb (root h x) x (λ q. some-link w e d (own-root (graphIn cells table (g .nodes)) (S .like .own) x inside-own (S .like .roots x inside ∙ q))) in
-      wrong-root (eqb (root h x) x) (isVar (vertex h x)) (vertex h x .flex) (isSome (valueOf x vs)) (isSome (numberOf x xs 0)) f ∙ ap mark (sym (fixed-by h vs xs x))
-    where
-      some-link : (v : ℕ) → v ≡ getD (tableIn t work) (5 * x + 1) 0 → (v ≡ 0 → ⊥) → vertex (graphIn cells (tableIn t work) (g .nodes)) x .link ≡ none → ⊥
-      some-link zero q n o = n refl
-      some-link (suc y) q n o = let z : some y ≡ none = ap linkIn q ∙ sym (link-of cells (tableIn t work) (g .nodes) x low) ∙ o in never (cc)
-
-  -- no link
-  pub unlinked : (w : ℕ) → w ≡ getD (tableIn t work) (5 * x + 1) 0 → w ≡ 0 → eqb (root h x) x ≡ true
-  unlinked w e z = eq-eqb (root h x) x (sym (S .like .roots x inside) ∙ root-self (graphIn cells table (g .nodes)) x (link-of cells table (g .nodes) x low ∙ ap linkIn (sym e ∙ z)))
+  -- it is linked to another
+  pub linked : (r : Bool) → RootOf cells (tableIn t work) g x r → not r ≡ true → 0 ≡ mark (isFixed h vs xs x)
+  linked r R e = wrong-root (eqb (root h x) x) (isVar (vertex h x)) (vertex h x .flex) (isSome (valueOf x vs)) (isSome (numberOf x xs 0)) (denied r (eqb (root h x) x) (R h S) e) ∙ ap mark (sym (fixed-by h vs xs x))
 
   -- its head
   pub headed : (r : ℕ) → HeadOf cells (tableIn t work) g x r → (r ≡ variableHead → ⊥) → 0 ≡ mark (isFixed h vs xs x)
   headed r H d =
       wrong-head (eqb (root h x) x) (isVar (vertex h x)) (vertex h x .flex) (isSome (valueOf x vs)) (isSome (numberOf x xs 0)) (head-other h x r (H h S) d) ∙ ap mark (sym (fixed-by h vs xs x))
 
-  -- its flex mark
-  flex-is : (w : ℕ) → w ≡ getD (tableIn t work) (5 * x + 3) 0 → ltb 0 w ≡ vertex h x .flex
-  flex-is w e = ap (ltb 0) e ∙ flex-of cells table g h S x low
-
   -- it is flexible
-  pub flexed : (w : ℕ) → w ≡ getD (tableIn t work) (5 * x + 3) 0 → (w ≡ 0 → ⊥) → 0 ≡ mark (isFixed h vs xs x)
-  flexed w e d =
-      wrong-flex (eqb (root h x) x) (isVar (vertex h x)) (vertex h x .flex) (isSome (valueOf x vs)) (isSome (numberOf x xs 0)) (sym (flex-is w e) ∙ more w d) ∙ ap mark (sym (fixed-by h vs xs x))
-    where
-      more : (v : ℕ) → (v ≡ 0 → ⊥) → ltb 0 v ≡ true
-      more v n = lt-ltb 0 v (omega (arith, n))
-
-  -- it is not
-  pub unflexed : (w : ℕ) → w ≡ getD (tableIn t work) (5 * x + 3) 0 → w ≡ 0 → vertex h x .flex ≡ false
-  unflexed w e z = sym (flex-is w e) ∙ ap (ltb 0) z
+  pub flexed : (f : Bool) → FlexOf cells (tableIn t work) g x f → f ≡ true → 0 ≡ mark (isFixed h vs xs x)
+  flexed f F e = wrong-flex (eqb (root h x) x) (isVar (vertex h x)) (vertex h x .flex) (isSome (valueOf x vs)) (isSome (numberOf x xs 0)) (sym (F h S) ∙ e) ∙ ap mark (sym (fixed-by h vs xs x))
 
   -- its value
   value-is : (w : ℕ) → w ≡ getD (tableIn t work) (valuesAt cells + x) 0 → w ≡ wordOf (valueOf x vs)
@@ -215,10 +183,10 @@ module _ (work cells : List ℕ) (t : Table) (g : Counts) (x : ℕ) (low : x < g
   uncoloured w e z = no-mark (isSome (numberOf x xs 0)) (sym (colour-is w e) ∙ z)
 
   -- all five are right
-  pub fixed : (l r f v k : ℕ) → l ≡ getD (tableIn t work) (5 * x + 1) 0 → l ≡ 0 → HeadOf cells (tableIn t work) g x r → r ≡ variableHead → f ≡ getD (tableIn t work) (5 * x + 3) 0 → f ≡ 0
+  pub fixed : (l : Bool) (r : ℕ) (f : Bool) (v k : ℕ) → RootOf cells (tableIn t work) g x l → not l ≡ false → HeadOf cells (tableIn t work) g x r → r ≡ variableHead → FlexOf cells (tableIn t work) g x f → f ≡ false
       → v ≡ getD (tableIn t work) (valuesAt cells + x) 0 → (v ≡ 0 → ⊥) → k ≡ getD (tableIn t work) (coloursAt cells + x) 0 → k ≡ 0 → 1 ≡ mark (isFixed h vs xs x)
   fixed l r f v k le lz H rz fe fz ve vd ke kz =
-      right-all (eqb (root h x) x) (isVar (vertex h x)) (vertex h x .flex) (isSome (valueOf x vs)) (isSome (numberOf x xs 0)) (unlinked l le lz) (head-variable h x r (H h S) rz) (unflexed f fe fz) (valued v ve vd) (uncoloured k ke kz)
+      right-all (eqb (root h x) x) (isVar (vertex h x)) (vertex h x .flex) (isSome (valueOf x vs)) (isSome (numberOf x xs 0)) (not-denied l (eqb (root h x) x) (le h S) lz) (head-variable h x r (H h S) rz) (sym (fe h S) ∙ fz) (valued v ve vd) (uncoloured k ke kz)
       ∙ ap mark (sym (fixed-by h vs xs x))
 
 -- ---- the words stand there

@@ -34,13 +34,13 @@ fn fixes(work: &[u32], cells: &[u32], t: Table, g: Graph, x: Node) -> usize
     let e = t.end;
     let n = cells.len();
     let i = x.0 as usize;
-    if word_at(work, t, 5 * i + 1) != 0 {
+    if !g.is_root(cells, &work[a..e], x) {
         return 0;
     }
     if g.head(cells, &work[a..e], x) != Pattern::VAR {
         return 0;
     }
-    if word_at(work, t, 5 * i + 3) != 0 {
+    if g.is_flexible(cells, &work[a..e], x) {
         return 0;
     }
     if word_at(work, t, 8 * n + 7 + i) == 0 {

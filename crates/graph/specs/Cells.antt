@@ -1,5 +1,6 @@
--- The nodes that cells and a table stand for. A row of the table: where the node starts in the cells, its link and one or 0, its sort, whether it
--- is flexible, whether it is rigid.
+-- The nodes that cells and a table stand for. Of each node the table has two words in front, which unification reads at every turn: where it
+-- starts in the cells, and its link and one or 0. Behind those of all nodes stand three more of each: its sort, whether it is flexible,
+-- whether it is rigid.
 use mathlib.Core.Path.{_≡_, refl, sym, ap, ap₂, subst, _∙_}
 use mathlib.Core.Bool.{Bool, true, false}
 use mathlib.Core.List.{List, [], _∷_, _++_}
@@ -15,21 +16,25 @@ use Rattle.base.specs.Part.{part, part-same, length-part}
 use Rattle.theory.specs.Unification.Like.{Like}
 use Rattle.graph.specs.declared.graph.Graph.{Graph as Counts}
 
--- the words of a node's row
+-- a node's words in front
 abbrev pub startIn : List ℕ → ℕ → ℕ
-startIn table i = getD table (5 * i) 0
+startIn table i = getD table (2 * i) 0
 
 abbrev pub linkWord : List ℕ → ℕ → ℕ
-linkWord table i = getD table (5 * i + 1) 0
+linkWord table i = getD table (2 * i + 1) 0
 
-abbrev pub sortWord : List ℕ → ℕ → ℕ
-sortWord table i = getD table (5 * i + 2) 0
+-- and those behind them, which start here
+abbrev pub restAt : List ℕ → ℕ
+restAt words = 2 * length words + 2
 
-abbrev pub flexWord : List ℕ → ℕ → ℕ
-flexWord table i = getD table (5 * i + 3) 0
+abbrev pub sortWord : List ℕ → List ℕ → ℕ → ℕ
+sortWord words table i = getD table (restAt words + 3 * i) 0
 
-abbrev pub rigidWord : List ℕ → ℕ → ℕ
-rigidWord table i = getD table (5 * i + 4) 0
+abbrev pub flexWord : List ℕ → List ℕ → ℕ → ℕ
+flexWord words table i = getD table (restAt words + (3 * i + 1)) 0
+
+abbrev pub rigidWord : List ℕ → List ℕ → ℕ → ℕ
+rigidWord words table i = getD table (restAt words + (3 * i + 2)) 0
 
 -- 0 is no link, else it is the node's number and one
 abbrev pub linkIn : ℕ → Option ℕ
@@ -47,9 +52,9 @@ vertexIn words table i = record {
   head = getD words (startIn table i) 0;
   args = part (startIn table i + 1) (startIn table (suc i) - (startIn table i + 1)) words;
   link = linkIn (linkWord table i);
-  sort = sortWord table i;
-  flex = markIn (flexWord table i);
-  rigid = markIn (rigidWord table i);
+  sort = sortWord words table i;
+  flex = markIn (flexWord words table i);
+  rigid = markIn (rigidWord words table i);
 }
 
 -- the first n nodes
@@ -71,7 +76,7 @@ graph-at words table (suc n) i l = elim (ℕ-discrete i n) [
   | no d ↦ List·getD-append (graphIn words table n) (vertexIn words table n ∷ []) (applied 0 []) i (omega (arith, length-graphIn words table n, d)) ∙ graph-at words table n i (omega (arith, d))
 ]
 
--- there is a row for as many nodes as the cells can hold, and one more, for where the next one starts; behind them is room for others
+-- there are words for as many nodes as the cells can hold, and for one more, for where the next one starts; behind them is room for others
 abbrev pub rowsEnd : List ℕ → ℕ
 rowsEnd words = 5 * length words + 5
 
@@ -98,8 +103,8 @@ start-before words table s L (suc k) i e = let r = L .rising i (omega arith) in 
 pub nodes-few : (words table : List ℕ) (s : Counts) → Laid words table s → s .nodes ≤ s .used
 nodes-few words table s L = let t = start-before words table s L (s .nodes) 0 (omega arith) in omega (arith, L .first)
 
--- so that there is a row for each, and for the next
-pub room : (words table : List ℕ) (s : Counts) → Laid words table s → 5 * s .nodes + 5 ≤ length table
+-- so that there are words for each, and for the next
+pub room : (words table : List ℕ) (s : Counts) → Laid words table s → 2 * s .nodes + 2 ≤ length table
 room words table s L = omega (arith, nodes-few words table s L, L .fits, L .wide)
 
 -- as many cells as are used
@@ -118,18 +123,19 @@ cells-used words table s L (suc n) l =
 
 -- ---- the words up to here are as they were
 module _ (words table words′ table′ : List ℕ) (s : Counts) (L : Laid words table s) (long-words : length words′ ≡ length words)
-    (rows : (i : ℕ) → i ≤ 5 * s .nodes → getD table′ i 0 ≡ getD table i 0) (filled : (i : ℕ) → i < s .used → getD words′ i 0 ≡ getD words i 0) where
+    (fronts : (i : ℕ) → i ≤ 2 * s .nodes → getD table′ i 0 ≡ getD table i 0) (rests : (i : ℕ) → i < 3 * s .nodes → getD table′ (restAt words + i) 0 ≡ getD table (restAt words + i) 0)
+    (filled : (i : ℕ) → i < s .used → getD words′ i 0 ≡ getD words i 0) where
   -- so are the nodes
   vertex-kept : (i : ℕ) → i < s .nodes → vertexIn words′ table′ i ≡ vertexIn words table i
   unfolding vertexIn
   vertex-kept i h =
-      let a : startIn table′ i ≡ startIn table i = rows (5 * i) (omega arith) in
-      let b : startIn table′ (suc i) ≡ startIn table (suc i) = rows (5 * suc i) (omega arith) in
+      let a : startIn table′ i ≡ startIn table i = fronts (2 * i) (omega arith) in
+      let b : startIn table′ (suc i) ≡ startIn table (suc i) = fronts (2 * suc i) (omega arith) in
       let r = L .rising i h in
       let t = start-before words table s L (s .nodes - suc i) (suc i) (omega arith) in
       let p : part (startIn table i + 1) (startIn table (suc i) - (startIn table i + 1)) words′ ≡ part (startIn table i + 1) (startIn table (suc i) - (startIn table i + 1)) words =
       part-same (startIn table i + 1) (startIn table (suc i) - (startIn table i + 1)) words′ words (omega (arith, L .fits, long-words)) (omega (arith, L .fits)) (λ k m. filled (startIn table i + 1 + k) (omega arith)) in
-      rw (a, b, p, rows (5 * i + 1) (omega arith), rows (5 * i + 2) (omega arith), rows (5 * i + 3) (omega arith), rows (5 * i + 4) (omega arith), filled (startIn table i) (omega arith))
+      rw (long-words, a, b, p, fronts (2 * i + 1) (omega arith), rests (3 * i) (omega arith), rests (3 * i + 1) (omega arith), rests (3 * i + 2) (omega arith), filled (startIn table i) (omega arith))
 
   pub graph-kept : (n : ℕ) → n ≤ s .nodes → graphIn words′ table′ n ≡ graphIn words table n
   unfolding graphIn
@@ -154,7 +160,7 @@ rows-set words table i v h = record { long = length-set table i v; rows = λ j l
 
 -- a node starts where it did
 pub start-same : (words table table′ : List ℕ) (s : Counts) → Laid words table s → SameRows words table table′ → (i : ℕ) → i ≤ s .nodes → startIn table′ i ≡ startIn table i
-start-same words table table′ s L R i h = R .rows (5 * i) (omega (arith, nodes-few words table s L, L .fits))
+start-same words table table′ s L R i h = R .rows (2 * i) (omega (arith, nodes-few words table s L, L .fits))
 
 pub laid-rows : (words table table′ : List ℕ) (s : Counts) → SameRows words table table′ → Laid words table s → Laid words table′ s
 laid-rows words table table′ s R L = record {
@@ -170,7 +176,7 @@ laid-rows words table table′ s R L = record {
 pub shows-rows : (words table table′ : List ℕ) (s : Counts) (g : Graph) → SameRows words table table′ → Shows words table s g → Shows words table′ s g
 shows-rows words table table′ s g R S =
     let few = nodes-few words table s (S .laid) in
-    let e = graph-kept words table words table′ s (S .laid) refl (λ i h. R .rows i (omega (arith, S .laid .fits))) (λ i h. refl) (s .nodes) (omega arith) in
+    let e = graph-kept words table words table′ s (S .laid) refl (λ i h. R .rows i (omega (arith, S .laid .fits))) (λ i h. R .rows (restAt words + i) (omega (arith, S .laid .fits))) (λ i h. refl) (s .nodes) (omega arith) in
     record { laid = laid-rows words table table′ s R (S .laid); like = subst (λ (h : Graph). Like h g) (sym e) (S .like) }
 
 -- from a place on, the words of a table are as they were

@@ -15,8 +15,8 @@ use Rattle.definition.specs.Graph.{Vertex, Graph, vertex, isVar, withFlex, join
 use Rattle.theory.specs.Unification.Forest.{SameLinks}
 use Rattle.theory.specs.Unification.Like.{SameVertex, like-linked, like-marked, placed-here, placed-there, join-linked, join-alike, flexed-links}
 use Rattle.graph.specs.declared.graph.Graph.{Graph as Counts}
-use Rattle.graph.specs.Cells.{startIn, linkWord, flexWord, linkIn, markIn, vertexIn, graphIn, length-graphIn, graph-at, rowsEnd, Laid, nodes-few, Shows, start-before, Unchanged, unchanged-then, unchanged-set}
-use Rattle.graph.specs.Links.{word-kept, word-new, laid-word, vertices-kept, head-kept, args-kept, link-of, graph-past, linked-word}
+use Rattle.graph.specs.Cells.{startIn, linkWord, restAt, flexWord, linkIn, markIn, vertexIn, graphIn, length-graphIn, graph-at, rowsEnd, Laid, nodes-few, Shows, start-before, Unchanged, unchanged-then, unchanged-set}
+use Rattle.graph.specs.Links.{laid-linked, vertices-kept, rest-unmarked, link-unmarked, laid-marked, head-marked, args-marked, mark-new, link-of, graph-past, linked-word}
 
 -- two roots, apart
 pub record Apart (table : List ℕ) (s : Counts) (x y : ℕ) : Type 0 where
@@ -38,10 +38,10 @@ module _ (words table : List ℕ) (s : Counts) (g : Graph) (S : Shows words tabl
   many = sym (S .like .long) ∙ length-graphIn words table (s .nodes)
 
   -- x is joined to y
-  pub shows-joined : (x y : ℕ) → Apart table s x y → Shows words (set table (5 * x + 1) (y + 1)) s (join g x y)
-  shows-joined x y A = subst (λ (v : ℕ). Shows words (set table (5 * x + 1) v) s (join g x y)) (sym (add-one y)) (record {
-    laid = laid-word words table s (S .laid) x 1 (suc y) (A .left) (omega arith) (omega arith);
-    like = like-linked (graphIn words table (s .nodes)) g (S .like) (graphIn words (set table (5 * x + 1) (suc y)) (s .nodes)) (join g x y) x y
+  pub shows-joined : (x y : ℕ) → Apart table s x y → Shows words (set table (2 * x + 1) (y + 1)) s (join g x y)
+  shows-joined x y A = subst (λ (v : ℕ). Shows words (set table (2 * x + 1) v) s (join g x y)) (sym (add-one y)) (record {
+    laid = laid-linked words table s (S .laid) x (suc y) (A .left);
+    like = like-linked (graphIn words table (s .nodes)) g (S .like) (graphIn words (set table (2 * x + 1) (suc y)) (s .nodes)) (join g x y) x y
         (linked-word words table s (S .laid) x y (A .left)) (join-linked g x y (omega (arith, many, A .left)))
         (λ w h. alike-then (vertices-kept words table s (S .laid) x (suc y) (A .left) w (omega (arith, many))) (alike-then (S .like .nodes w h) (alike-back (join-alike g x y (omega (arith, many, A .left)) w))))
         (omega (arith, many, A .left)) (omega (arith, many, A .right)) (link-of words table (s .nodes) x (A .left) ∙ ap linkIn (A .free)) (link-of words table (s .nodes) y (A .right) ∙ ap linkIn (A .bare)) (A .unlike);
@@ -50,13 +50,13 @@ module _ (words table : List ℕ) (s : Counts) (g : Graph) (S : Shows words tabl
   -- y's flex word becomes m
   module _ (y m : ℕ) (l : y < s .nodes) where
     abbrev marked : List ℕ
-    marked = set table (5 * y + 3) m
+    marked = set table (restAt words + (3 * y + 1)) m
 
     flexed : SameLinks (graphIn words table (s .nodes)) (graphIn words marked (s .nodes))
     flexed = record {
       long = length-graphIn words marked (s .nodes) ∙ sym (length-graphIn words table (s .nodes));
       links = λ w. elim (decLt w (s .nodes)) [
-        | yes h ↦ link-of words marked (s .nodes) w h ∙ ap linkIn (word-kept words table s (S .laid) y 3 m l (omega arith) (omega arith) w 1 (omega arith) (λ a b. omega arith)) ∙ sym (link-of words table (s .nodes) w h)
+        | yes h ↦ link-of words marked (s .nodes) w h ∙ ap linkIn (link-unmarked words table s (S .laid) y m w h) ∙ sym (link-of words table (s .nodes) w h)
         | no h ↦ ap (λ (u : Vertex). u .link) (graph-past words marked (s .nodes) w (omega (arith, h)) ∙ sym (graph-past words table (s .nodes) w (omega (arith, h))))
       ];
     }
@@ -64,7 +64,7 @@ module _ (words table : List ℕ) (s : Counts) (g : Graph) (S : Shows words tabl
     pub shows-flexed : (f : Bool) → markIn m ≡ f → Shows words marked s (set g y (withFlex (vertex g y) f))
     unfolding vertexIn
     shows-flexed f e = record {
-      laid = laid-word words table s (S .laid) y 3 m l (omega arith) (omega arith);
+      laid = laid-marked words table s (S .laid) y m;
       like = like-marked (graphIn words table (s .nodes)) g (S .like) (graphIn words marked (s .nodes)) (set g y (withFlex (vertex g y) f)) flexed (flexed-links g y f (omega (arith, many, l))) (λ w h. at w h (ℕ-discrete w y));
     }
       where
@@ -74,21 +74,21 @@ module _ (words table : List ℕ) (s : Counts) (g : Graph) (S : Shows words tabl
             let o = rw (graph-at words table (s .nodes) w lw) at (S .like .nodes w h) in
             let gw : vertex (set g y (withFlex (vertex g y) f)) w ≡ withFlex (vertex g w) f = ap (vertex (set g y (withFlex (vertex g y) f))) q ∙ placed-here g y (withFlex (vertex g y) f) (omega (arith, many, l)) ∙ ap (λ (k : ℕ). withFlex (vertex g k) f) (sym q) in
             rw (graph-at words marked (s .nodes) w lw, gw) (record {
-              head = head-kept words table s (S .laid) y 3 m l (omega arith) (omega arith) w ∙ o .head;
-              args = args-kept words table s (S .laid) y 3 m l (omega arith) (omega arith) w ∙ o .args;
-              sort = word-kept words table s (S .laid) y 3 m l (omega arith) (omega arith) w 2 (omega arith) (λ a b. omega arith) ∙ o .sort;
-              flex = ap (λ (k : ℕ). markIn (getD marked (5 * k + 3) 0)) q ∙ ap markIn (word-new words table s (S .laid) y 3 m l (omega arith) (omega arith)) ∙ e;
-              rigid = ap markIn (word-kept words table s (S .laid) y 3 m l (omega arith) (omega arith) w 4 (omega arith) (λ a b. omega arith)) ∙ o .rigid;
+              head = head-marked words table s (S .laid) y m w lw ∙ o .head;
+              args = args-marked words table s (S .laid) y m w lw ∙ o .args;
+              sort = rest-unmarked words table s (S .laid) y m (3 * w) (λ e. omega (arith, e)) ∙ o .sort;
+              flex = ap (λ (k : ℕ). markIn (flexWord words marked k)) q ∙ ap markIn (mark-new words table s (S .laid) y m l) ∙ e;
+              rigid = ap markIn (rest-unmarked words table s (S .laid) y m (3 * w + 2) (λ e. omega (arith, e))) ∙ o .rigid;
             })
         at w h (no d) =
             let lw : w < s .nodes = omega (arith, many) in
             let o = rw (graph-at words table (s .nodes) w lw) at (S .like .nodes w h) in
             rw (graph-at words marked (s .nodes) w lw, placed-there g y (withFlex (vertex g y) f) (omega (arith, many, l)) w d) (record {
-              head = head-kept words table s (S .laid) y 3 m l (omega arith) (omega arith) w ∙ o .head;
-              args = args-kept words table s (S .laid) y 3 m l (omega arith) (omega arith) w ∙ o .args;
-              sort = word-kept words table s (S .laid) y 3 m l (omega arith) (omega arith) w 2 (omega arith) (λ a b. omega arith) ∙ o .sort;
-              flex = ap markIn (word-kept words table s (S .laid) y 3 m l (omega arith) (omega arith) w 3 (omega arith) (λ a b. d a)) ∙ o .flex;
-              rigid = ap markIn (word-kept words table s (S .laid) y 3 m l (omega arith) (omega arith) w 4 (omega arith) (λ a b. omega arith)) ∙ o .rigid;
+              head = head-marked words table s (S .laid) y m w lw ∙ o .head;
+              args = args-marked words table s (S .laid) y m w lw ∙ o .args;
+              sort = rest-unmarked words table s (S .laid) y m (3 * w) (λ e. omega (arith, e)) ∙ o .sort;
+              flex = ap markIn (rest-unmarked words table s (S .laid) y m (3 * w + 1) (λ e. d (omega (arith, e)))) ∙ o .flex;
+              rigid = ap markIn (rest-unmarked words table s (S .laid) y m (3 * w + 2) (λ e. omega (arith, e))) ∙ o .rigid;
             })
 
 -- ---- binding: the mark, then the link
@@ -116,7 +116,7 @@ module _ (words table : List ℕ) (s : Counts) (g : Graph) (S : Shows words tabl
   inside : (z : ℕ) → z < s .nodes → z < length g
   inside z l = omega (arith, length-graphIn words table (s .nodes), S .like .long)
 
-  flex-of : (z : ℕ) → z < s .nodes → markIn (flexWord table z) ≡ vertex g z .flex
+  flex-of : (z : ℕ) → z < s .nodes → markIn (flexWord words table z) ≡ vertex g z .flex
   unfolding vertexIn
   flex-of z l = sym (ap (λ (v : Vertex). v .flex) (graph-at words table (s .nodes) z l)) ∙ S .like .nodes z (inside z l) .flex
 
@@ -126,18 +126,18 @@ module _ (words table : List ℕ) (s : Counts) (g : Graph) (S : Shows words tabl
   shares-none e = rw (e, sharing) S
 
   -- x is not flexible
-  pub shares-same : (isVar (vertex g y) ≡ true) → flexWord table x ≡ 0 → Shows words table s (sharing g x y)
+  pub shares-same : (isVar (vertex g y) ≡ true) → flexWord words table x ≡ 0 → Shows words table s (sharing g x y)
   unfolding sharing
   shares-same e z =
       let f : vertex g x .flex ≡ false = sym (flex-of x (A .left)) ∙ ap markIn z in
-      let h : markIn (flexWord table y) ≡ (vertex g y .flex || vertex g x .flex) = flex-of y (A .right) ∙ sym (or-false (vertex g y .flex)) ∙ ap (λ (b : Bool). vertex g y .flex || b) (sym f) in
-      rw (e, sharing) (subst (λ (t : List ℕ). Shows words t s (set g y (withFlex (vertex g y) (vertex g y .flex || vertex g x .flex)))) (set-getD table (5 * y + 3) 0) (shows-flexed words table s g S y (flexWord table y) (A .right) (vertex g y .flex || vertex g x .flex) h))
+      let h : markIn (flexWord words table y) ≡ (vertex g y .flex || vertex g x .flex) = flex-of y (A .right) ∙ sym (or-false (vertex g y .flex)) ∙ ap (λ (b : Bool). vertex g y .flex || b) (sym f) in
+      rw (e, sharing) (subst (λ (t : List ℕ). Shows words t s (set g y (withFlex (vertex g y) (vertex g y .flex || vertex g x .flex)))) (set-getD table (restAt words + (3 * y + 1)) 0) (shows-flexed words table s g S y (flexWord words table y) (A .right) (vertex g y .flex || vertex g x .flex) h))
 
   -- x is
-  pub shares-flex : (isVar (vertex g y) ≡ true) → (flexWord table x ≡ 0 → ⊥) → Shows words (set table (5 * y + 3) 1) s (sharing g x y)
+  pub shares-flex : (isVar (vertex g y) ≡ true) → (flexWord words table x ≡ 0 → ⊥) → Shows words (set table (restAt words + (3 * y + 1)) 1) s (sharing g x y)
   unfolding sharing
   shares-flex e z =
-      let f : vertex g x .flex ≡ true = sym (flex-of x (A .left)) ∙ marked-some (flexWord table x) z in
+      let f : vertex g x .flex ≡ true = sym (flex-of x (A .left)) ∙ marked-some (flexWord words table x) z in
       rw (e, sharing) (shows-flexed words table s g S y 1 (A .right) (vertex g y .flex || vertex g x .flex) (sym (ap (λ (b : Bool). vertex g y .flex || b) f ∙ or-true (vertex g y .flex))))
     where
       marked-some : (m : ℕ) → (m ≡ 0 → ⊥) → markIn m ≡ true
@@ -145,12 +145,12 @@ module _ (words table : List ℕ) (s : Counts) (g : Graph) (S : Shows words tabl
       marked-some (suc m) d = refl
 
 -- they are apart still
-pub apart-flexed : (words table : List ℕ) (s : Counts) → Laid words table s → (x y m : ℕ) → Apart table s x y → Apart (set table (5 * y + 3) m) s x y
+pub apart-flexed : (words table : List ℕ) (s : Counts) → Laid words table s → (x y m : ℕ) → Apart table s x y → Apart (set table (restAt words + (3 * y + 1)) m) s x y
 apart-flexed words table s L x y m A = record {
   left = A .left;
   right = A .right;
-  free = word-kept words table s L y 3 m (A .right) (omega arith) (omega arith) x 1 (omega arith) (λ a b. omega arith) ∙ A .free;
-  bare = word-kept words table s L y 3 m (A .right) (omega arith) (omega arith) y 1 (omega arith) (λ a b. omega arith) ∙ A .bare;
+  free = link-unmarked words table s L y m x (A .left) ∙ A .free;
+  bare = link-unmarked words table s L y m y (A .right) ∙ A .bare;
   unlike = A .unlike;
 }
 
@@ -164,9 +164,12 @@ Shares words table table′ s x y = Laid words table′ s × Apart table′ s x 
 abbrev pub Binds : List ℕ → List ℕ → List ℕ → Counts → ℕ → ℕ → Type 0
 Binds words table table′ s x y = ((g : Graph) → Shows words table s g → Shows words table′ s (bind g x y)) × Unchanged (rowsEnd words) table table′
 
--- a word of a node's row is written
-pub behind-row : (words table : List ℕ) (s : Counts) → Laid words table s → (x k v : ℕ) → x < s .nodes → k < 5 → Unchanged (rowsEnd words) table (set table (5 * x + k) v)
-behind-row words table s L x k v l h = unchanged-set (rowsEnd words) table (5 * x + k) v (omega (arith, nodes-few words table s L, L .fits))
+-- a link is written, or a mark
+pub behind-link : (words table : List ℕ) (s : Counts) → Laid words table s → (x v : ℕ) → x < s .nodes → Unchanged (rowsEnd words) table (set table (2 * x + 1) v)
+behind-link words table s L x v l = unchanged-set (rowsEnd words) table (2 * x + 1) v (omega (arith, nodes-few words table s L, L .fits))
+
+pub behind-mark : (words table : List ℕ) (s : Counts) → Laid words table s → (x v : ℕ) → x < s .nodes → Unchanged (rowsEnd words) table (set table (restAt words + (3 * x + 1)) v)
+behind-mark words table s L x v l = unchanged-set (rowsEnd words) table (restAt words + (3 * x + 1)) v (omega (arith, nodes-few words table s L, L .fits))
 
 -- a node's head stands in the cells
 pub head-there : (words table : List ℕ) (s : Counts) → Laid words table s → (x : ℕ) → x < s .nodes → startIn table x < length words

@@ -3,6 +3,6 @@ pub mod Cells
 pub mod Links
 pub mod Joins
 pub mod Pushes
-pub mod Pairs
-pub mod Meets
-pub mod Unifies
+pub mod Nodes
+pub mod Stack
+pub mod Inner

@@ -15,7 +15,7 @@ use Rattle.theory.specs.Unification.Like.{Like, like-same, like-more, same-vert
 use Rattle.graph.specs.declared.graph.Graph.{Graph as Counts}
 use Rattle.graph.specs.declared.graph.Pushed.{Pushed}
 use Rattle.graph.specs.declared.graph.Pushed.the-variants.{At, Short}
-use Rattle.graph.specs.Cells.{startIn, linkWord, sortWord, flexWord, rigidWord, markIn, vertexIn, graphIn, length-graphIn, graph-kept, rowsEnd, Laid, Shows, nodes-few, cells-used, Unchanged, unchanged-then, unchanged-later, unchanged-set}
+use Rattle.graph.specs.Cells.{startIn, linkWord, restAt, sortWord, flexWord, rigidWord, markIn, vertexIn, graphIn, length-graphIn, graph-kept, rowsEnd, Laid, Shows, nodes-few, cells-used, Unchanged, unchanged-then, unchanged-set}
 
 -- ---- no node
 pub shows-none : (words table : List ℕ) → 5 * length words + 5 ≤ length table → length words < 4294967295 → startIn table 0 ≡ 0 → Shows words table (record { nodes = 0; used = 0 }) []
@@ -27,22 +27,23 @@ shows-none words table wide small z = record {
 
 -- ---- the words up to here are as they were
 module _ (words table words′ table′ : List ℕ) (s : Counts) (L : Laid words table s) (long-words : length words′ ≡ length words) (long-table : length table′ ≡ length table)
-    (rows : (i : ℕ) → i ≤ 5 * s .nodes → getD table′ i 0 ≡ getD table i 0) (filled : (i : ℕ) → i < s .used → getD words′ i 0 ≡ getD words i 0) where
+    (fronts : (i : ℕ) → i ≤ 2 * s .nodes → getD table′ i 0 ≡ getD table i 0) (rests : (i : ℕ) → i < 3 * s .nodes → getD table′ (restAt words + i) 0 ≡ getD table (restAt words + i) 0)
+    (filled : (i : ℕ) → i < s .used → getD words′ i 0 ≡ getD words i 0) where
   -- a node more, which takes the cells up to `end`
   module _ (end : ℕ) (next : startIn table′ (suc (s .nodes)) ≡ end) (more : s .used + 1 ≤ end) (fits : end ≤ length words) where
     abbrev grown : Counts
     grown = record { nodes = s .nodes + 1; used = end }
 
     starts : startIn table′ (s .nodes) ≡ s .used
-    starts = rows (5 * s .nodes) (omega arith) ∙ L .end
+    starts = fronts (2 * s .nodes) (omega arith) ∙ L .end
 
     pub laid-more : Laid words′ table′ grown
     laid-more = record {
       wide = omega (arith, L .wide, long-words, long-table);
-      first = rows 0 (omega arith) ∙ L .first;
+      first = fronts 0 (omega arith) ∙ L .first;
       rising = λ i h. elim (ℕ-discrete i (s .nodes)) [
         | yes e ↦ omega (arith, ap (startIn table′) e, starts, next, more, ap (λ (k : ℕ). startIn table′ (suc k)) e)
-        | no d ↦ omega (arith, rows (5 * i) (omega (arith, d)), rows (5 * suc i) (omega (arith, d)), L .rising i (omega (arith, d)))
+        | no d ↦ omega (arith, fronts (2 * i) (omega (arith, d)), fronts (2 * suc i) (omega (arith, d)), L .rising i (omega (arith, d)))
       ];
       end = let e : s .nodes + 1 ≡ suc (s .nodes) = omega arith in ap (startIn table′) e ∙ next;
       fits = omega (arith, long-words);
@@ -55,7 +56,7 @@ module _ (words table words′ table′ : List ℕ) (s : Counts) (L : Laid words
       laid = laid-more;
       like =
           let q : s .nodes + 1 ≡ suc (s .nodes) = omega arith in
-          let c : graphIn words′ table′ (s .nodes + 1) ≡ graphIn words table (s .nodes) ++ (v ∷ []) = ap (graphIn words′ table′) q ∙ ap₂ (λ (h : Graph) (w : Vertex). h ++ (w ∷ [])) (graph-kept words table words′ table′ s L long-words rows filled (s .nodes) (omega arith)) e in
+          let c : graphIn words′ table′ (s .nodes + 1) ≡ graphIn words table (s .nodes) ++ (v ∷ []) = ap (graphIn words′ table′) q ∙ ap₂ (λ (h : Graph) (w : Vertex). h ++ (w ∷ [])) (graph-kept words table words′ table′ s L long-words fronts rests filled (s .nodes) (omega arith)) e in
           subst (λ (h : Graph). Like h (g ++ (v ∷ []))) (sym c) (like-more (graphIn words table (s .nodes)) g (S .like) v v bare bare (same-vertex v));
     }
 
@@ -71,49 +72,80 @@ pub cells-shown : (words table : List ℕ) (s : Counts) (g : Graph) → Shows wo
 cells-shown words table s g S =
     sym (like-cells (graphIn words table (s .nodes)) g (S .like .long) (λ x l. ap length (S .like .nodes x l .args))) ∙ cells-used words table s (S .laid) (s .nodes) (omega arith) ∙ S .laid .end
 
--- ---- the row of the next node
-pub record Rows (table table′ : List ℕ) (s : Counts) (sort flex rigid end : ℕ) : Type 0 where
+-- ---- the words of the next node, and where the one behind it starts
+pub record Rows (words table table′ : List ℕ) (s : Counts) (sort flex rigid end : ℕ) : Type 0 where
   pub long : length table′ ≡ length table
-  pub rows : (i : ℕ) → i ≤ 5 * s .nodes → getD table′ i 0 ≡ getD table i 0
+  pub fronts : (i : ℕ) → i ≤ 2 * s .nodes → getD table′ i 0 ≡ getD table i 0
+  pub rests : (i : ℕ) → i < 3 * s .nodes → getD table′ (restAt words + i) 0 ≡ getD table (restAt words + i) 0
   pub link : linkWord table′ (s .nodes) ≡ 0
-  pub sorted : sortWord table′ (s .nodes) ≡ sort
-  pub flexed : flexWord table′ (s .nodes) ≡ flex
-  pub fixed : rigidWord table′ (s .nodes) ≡ rigid
+  pub sorted : sortWord words table′ (s .nodes) ≡ sort
+  pub flexed : flexWord words table′ (s .nodes) ≡ flex
+  pub fixed : rigidWord words table′ (s .nodes) ≡ rigid
   pub next : startIn table′ (suc (s .nodes)) ≡ end
-  pub behind : Unchanged (5 * s .nodes + 6) table table′
+  pub behind : Unchanged (rowsEnd words) table table′
 
--- five words written one behind the other
-pub rows-written : (table : List ℕ) (s : Counts) (sort flex rigid end : ℕ) → 5 * s .nodes + 6 ≤ length table
-    → Rows table (set (set (set (set (set table (5 * s .nodes + 1) 0) (5 * s .nodes + 2) sort) (5 * s .nodes + 3) flex) (5 * s .nodes + 4) rigid) (5 * s .nodes + 5) end) s sort flex rigid end
-rows-written table s sort flex rigid end h =
-    let a : ℕ = 5 * s .nodes in
-    let t1 : List ℕ = set table (a + 1) 0 in
-    let t2 : List ℕ = set t1 (a + 2) sort in
-    let t3 : List ℕ = set t2 (a + 3) flex in
-    let t4 : List ℕ = set t3 (a + 4) rigid in
-    let l1 : length t1 ≡ length table = length-set table (a + 1) 0 in
-    let l2 : length t2 ≡ length table = length-set t1 (a + 2) sort ∙ l1 in
-    let l3 : length t3 ≡ length table = length-set t2 (a + 3) flex ∙ l2 in
-    let l4 : length t4 ≡ length table = length-set t3 (a + 4) rigid ∙ l3 in
-    record {
-      long = length-set t4 (a + 5) end ∙ l4;
-      rows = λ i l.
-          getD-set-other t4 (a + 5) i end 0 (λ e. omega arith) ∙ getD-set-other t3 (a + 4) i rigid 0 (λ e. omega arith) ∙ getD-set-other t2 (a + 3) i flex 0 (λ e. omega arith)
-          ∙ getD-set-other t1 (a + 2) i sort 0 (λ e. omega arith) ∙ getD-set-other table (a + 1) i 0 0 (λ e. omega arith);
-      link = getD-set-other t4 (a + 5) (a + 1) end 0 (λ e. omega arith) ∙ getD-set-other t3 (a + 4) (a + 1) rigid 0 (λ e. omega arith) ∙ getD-set-other t2 (a + 3) (a + 1) flex 0 (λ e. omega arith)
-          ∙ getD-set-other t1 (a + 2) (a + 1) sort 0 (λ e. omega arith) ∙ getD-set-same table (a + 1) 0 0 (omega arith);
-      sorted = getD-set-other t4 (a + 5) (a + 2) end 0 (λ e. omega arith) ∙ getD-set-other t3 (a + 4) (a + 2) rigid 0 (λ e. omega arith) ∙ getD-set-other t2 (a + 3) (a + 2) flex 0 (λ e. omega arith) ∙ getD-set-same t1 (a + 2) sort 0 (omega (arith, l1));
-      flexed = getD-set-other t4 (a + 5) (a + 3) end 0 (λ e. omega arith) ∙ getD-set-other t3 (a + 4) (a + 3) rigid 0 (λ e. omega arith) ∙ getD-set-same t2 (a + 3) flex 0 (omega (arith, l2));
-      fixed = getD-set-other t4 (a + 5) (a + 4) end 0 (λ e. omega arith) ∙ getD-set-same t3 (a + 4) rigid 0 (omega (arith, l3));
-      next = let q : 5 * suc (s .nodes) ≡ a + 5 = omega arith in ap (λ (i : ℕ). getD (set t4 (a + 5) end) i 0) q ∙ getD-set-same t4 (a + 5) end 0 (omega (arith, l4));
-      behind =
-          let f : ℕ = a + 6 in
-          unchanged-then f table t4 (set t4 (a + 5) end)
-          (unchanged-then f table t3 t4
-          (unchanged-then f table t2 t3 (unchanged-then f table t1 t2 (unchanged-set f table (a + 1) 0 (omega arith)) (unchanged-set f t1 (a + 2) sort (omega arith))) (unchanged-set f t2 (a + 3) flex (omega arith)))
-          (unchanged-set f t3 (a + 4) rigid (omega arith)))
-          (unchanged-set f t4 (a + 5) end (omega arith));
-    }
+-- two words written in front, and three behind
+module _ (words table : List ℕ) (s : Counts) (sort flex rigid end : ℕ) (more : s .nodes < length words) (wide : rowsEnd words ≤ length table) where
+  abbrev a : ℕ
+  a = 2 * s .nodes
+
+  abbrev b : ℕ
+  b = 2 * length words + 2 + 3 * s .nodes
+
+  abbrev t1 : List ℕ
+  t1 = set table (a + 1) 0
+
+  abbrev t2 : List ℕ
+  t2 = set t1 (a + 2) end
+
+  abbrev t3 : List ℕ
+  t3 = set t2 b sort
+
+  abbrev t4 : List ℕ
+  t4 = set t3 (b + 1) flex
+
+  abbrev t5 : List ℕ
+  t5 = set t4 (b + 2) rigid
+
+  long2 : length t2 ≡ length table
+  long2 = length-set t1 (a + 2) end ∙ length-set table (a + 1) 0
+
+  long3 : length t3 ≡ length table
+  long3 = length-set t2 b sort ∙ long2
+
+  long4 : length t4 ≡ length table
+  long4 = length-set t3 (b + 1) flex ∙ long3
+
+  -- what is written behind leaves other words
+  before-rest : (i : ℕ) → i < b → getD t5 i 0 ≡ getD t2 i 0
+  before-rest i h = getD-set-other t4 (b + 2) i rigid 0 (λ e. omega (arith, e)) ∙ getD-set-other t3 (b + 1) i flex 0 (λ e. omega (arith, e)) ∙ getD-set-other t2 b i sort 0 (λ e. omega (arith, e))
+
+  -- what is written in front, too
+  beside-front : (i : ℕ) → (i ≡ a + 1 → ⊥) → (i ≡ a + 2 → ⊥) → getD t2 i 0 ≡ getD table i 0
+  beside-front i c d = getD-set-other t1 (a + 2) i end 0 d ∙ getD-set-other table (a + 1) i 0 0 c
+
+  pub rows-written : Rows words table t5 s sort flex rigid end
+  rows-written =
+      let flexed-at : restAt words + (3 * s .nodes + 1) ≡ b + 1 = omega arith in
+      let rigid-at : restAt words + (3 * s .nodes + 2) ≡ b + 2 = omega arith in
+      let next-at : 2 * suc (s .nodes) ≡ a + 2 = omega arith in
+      let f : ℕ = rowsEnd words in
+      record {
+        long = length-set t4 (b + 2) rigid ∙ long4;
+        fronts = λ i l. before-rest i (omega arith) ∙ beside-front i (λ e. omega (arith, e)) (λ e. omega (arith, e));
+        rests = λ i l. before-rest (restAt words + i) (omega arith) ∙ beside-front (restAt words + i) (λ e. omega (arith, e, more)) (λ e. omega (arith, e, more));
+        link = before-rest (a + 1) (omega (arith, more)) ∙ getD-set-other t1 (a + 2) (a + 1) end 0 (λ e. omega (arith, e)) ∙ getD-set-same table (a + 1) 0 0 (omega (arith, more, wide));
+        sorted = getD-set-other t4 (b + 2) b rigid 0 (λ e. omega (arith, e)) ∙ getD-set-other t3 (b + 1) b flex 0 (λ e. omega (arith, e)) ∙ getD-set-same t2 b sort 0 (omega (arith, more, wide, long2));
+        flexed = ap (λ (i : ℕ). getD t5 i 0) flexed-at ∙ getD-set-other t4 (b + 2) (b + 1) rigid 0 (λ e. omega (arith, e)) ∙ getD-set-same t3 (b + 1) flex 0 (omega (arith, more, wide, long3));
+        fixed = ap (λ (i : ℕ). getD t5 i 0) rigid-at ∙ getD-set-same t4 (b + 2) rigid 0 (omega (arith, more, wide, long4));
+        next = ap (λ (i : ℕ). getD t5 i 0) next-at ∙ before-rest (a + 2) (omega (arith, more)) ∙ getD-set-same t1 (a + 2) end 0 (omega (arith, more, wide, length-set table (a + 1) 0));
+        behind =
+            unchanged-then f table t4 t5
+            (unchanged-then f table t3 t4
+            (unchanged-then f table t2 t3 (unchanged-then f table t1 t2 (unchanged-set f table (a + 1) 0 (omega (arith, more))) (unchanged-set f t1 (a + 2) end (omega (arith, more)))) (unchanged-set f t2 b sort (omega (arith, more))))
+            (unchanged-set f t3 (b + 1) flex (omega (arith, more))))
+            (unchanged-set f t4 (b + 2) rigid (omega (arith, more)));
+      }
 
 -- what a node more answers: its number and the graph with it, or that the cells have no room for it; behind the rows nothing changes
 abbrev pub Pushes : List ℕ → List ℕ → List ℕ → List ℕ → Counts → Vertex → Pushed → Type 0
@@ -125,9 +157,13 @@ pub no-room : (words words′ table table′ : List ℕ) (s : Counts) (v : Verte
 no-room words words′ table table′ s v h g S = omega (arith, h, cells-shown words table s g S)
 
 -- the node stands there
-module _ (words table words′ table′ : List ℕ) (s : Counts) (L : Laid words table s) (long : length words′ ≡ length words) (filled : (i : ℕ) → i < s .used → getD words′ i 0 ≡ getD words i 0) (sort flex rigid end : ℕ) (R : Rows table table′ s sort flex rigid end) (more : s .used + 1 ≤ end) (fits : end ≤ length words) where
+module _ (words table words′ table′ : List ℕ) (s : Counts) (L : Laid words table s) (long : length words′ ≡ length words) (filled : (i : ℕ) → i < s .used → getD words′ i 0 ≡ getD words i 0) (sort flex rigid end : ℕ) (R : Rows words′ table table′ s sort flex rigid end) (more : s .used + 1 ≤ end) (fits : end ≤ length words) where
   starts-there : startIn table′ (s .nodes) ≡ s .used
-  starts-there = R .rows (5 * s .nodes) (omega arith) ∙ L .end
+  starts-there = R .fronts (2 * s .nodes) (omega arith) ∙ L .end
+
+  -- there are as many cells as before
+  rests-there : (i : ℕ) → i < 3 * s .nodes → getD table′ (restAt words + i) 0 ≡ getD table (restAt words + i) 0
+  rests-there i l = ap (λ (k : ℕ). getD table′ (2 * k + 2 + i) 0) (sym long) ∙ R .rests i l ∙ ap (λ (k : ℕ). getD table (2 * k + 2 + i) 0) long
 
   pub node-more : (n : Node) → n .0 ≡ s .nodes → (head : ℕ) (args : List ℕ) → getD words′ (s .used) 0 ≡ head → part (s .used + 1) (end - (s .used + 1)) words′ ≡ args
       → Pushes words words′ table table′ s (record { head = head; args = args; link = none; sort = sort; flex = markIn flex; rigid = markIn rigid }) (At n (record { nodes = s .nodes + 1; used = end }))
@@ -135,12 +171,12 @@ module _ (words table words′ table′ : List ℕ) (s : Counts) (L : Laid words
   node-more n n-is head args h a =
       let v : Vertex = record { head = head; args = args; link = none; sort = sort; flex = markIn flex; rigid = markIn rigid } in
       let e : vertexIn words′ table′ (s .nodes) ≡ v = rw (starts-there, R .next, R .link, R .sorted, R .flexed, R .fixed, h, a) in (
-        λ g S. (n-is ∙ sym (length-graphIn words table (s .nodes)) ∙ S .like .long, shows-more words table words′ table′ s L long (R .long) (R .rows) filled end (R .next) more fits g S v refl e),
-        unchanged-later (5 * s .nodes + 6) (rowsEnd words) table table′ (omega (arith, nodes-few words table s L)) (R .behind),
+        λ g S. (n-is ∙ sym (length-graphIn words table (s .nodes)) ∙ S .like .long, shows-more words table words′ table′ s L long (R .long) (R .fronts) rests-there filled end (R .next) more fits g S v refl e),
+        subst (λ (k : ℕ). Unchanged (5 * k + 5) table table′) long (R .behind),
       )
 
 -- a variable takes one cell
-pub var-pushed : (words table table′ : List ℕ) (s : Counts) (n : Node) → n .0 ≡ s .nodes → Laid words table s → s .used < length words → (sort flex rigid : ℕ) → Rows table table′ s sort flex rigid (s .used + 1)
+pub var-pushed : (words table table′ : List ℕ) (s : Counts) (n : Node) → n .0 ≡ s .nodes → Laid words table s → s .used < length words → (sort flex rigid : ℕ) → Rows (set words (s .used) variableHead) table table′ s sort flex rigid (s .used + 1)
     → Pushes words (set words (s .used) variableHead) table table′ s (variableVertex sort (markIn flex) (markIn rigid)) (At n (record { nodes = s .nodes + 1; used = s .used + 1 }))
 unfolding part
 var-pushed words table table′ s n n-is L h sort flex rigid R =
@@ -156,7 +192,7 @@ pushed-long words args copied used head end e h same =
     length-put (used + 1) (end - (used + 1)) w (omega (arith, lw)) copied (ap length same ∙ omega arith) ∙ lw
 
 -- an application takes a cell for its head and one for each argument
-pub app-pushed : (words table table′ args copied : List ℕ) (s : Counts) (n : Node) → n .0 ≡ s .nodes → (head end : ℕ) → Laid words table s → end ≡ s .used + 1 + length args → end ≤ length words → copied ≡ args → Rows table table′ s nothing 0 0 end
+pub app-pushed : (words table table′ args copied : List ℕ) (s : Counts) (n : Node) → n .0 ≡ s .nodes → (head end : ℕ) → Laid words table s → end ≡ s .used + 1 + length args → end ≤ length words → copied ≡ args → Rows (put (s .used + 1) (end - (s .used + 1)) copied (set words (s .used) head)) table table′ s nothing 0 0 end
     → Pushes words (put (s .used + 1) (end - (s .used + 1)) copied (set words (s .used) head)) table table′ s (applied head args) (At n (record { nodes = s .nodes + 1; used = end }))
 app-pushed words table table′ args copied s number number-is head end L e h same R =
     let n : ℕ = end - (s .used + 1) in

@@ -1,4 +1,4 @@
-// A graph's nodes: head and arguments of each in the graph's cells, a row of five words each in a table.
+// A graph's nodes: head and arguments of each in the graph's cells; five words of each in a table, of which two stand in front.
 use base::copy::copy_words;
 use base::id::Ground;
 use base::id::Node;
@@ -10,6 +10,7 @@ ghost use lib.ListN.{length};
 ghost use Rattle.definition.specs.Graph.{variableVertex, applied};
 ghost use Rattle.graph.specs.Cells.{linkWord, markIn, rowsEnd, Laid, Shows, Unchanged};
 ghost use Rattle.graph.specs.Links.{Holds, Found};
+ghost use Rattle.graph.specs.Nodes.{RootOf};
 ghost use Rattle.graph.specs.Joins.{Apart, Joins, Shares, Binds, HeadOf};
 ghost use Rattle.graph.specs.Pushes.{Rows, Pushes};
 
@@ -31,7 +32,15 @@ impl Graph {
         requires { ⌜ Laid (now cells) (now table) self × (x < self .nodes) ⌝ }
         ensures { λ r. ⌜ r ≡ linkWord (now (table .entry)) x ⌝ }
     {
-        table[5 * x + 1]
+        table[2 * x + 1]
+    }
+
+    // Whether node `x` is a root.
+    pub fn is_root(self, cells: &[u32], table: &[u32], x: Node) -> bool
+        requires { ⌜ Laid (now cells) (now table) self × (x .0 < self .nodes) ⌝ }
+        ensures { λ r. ⌜ RootOf (now (cells .entry)) (now (table .entry)) self (x .0) r ⌝ }
+    {
+        self.link(cells, table, x.0 as usize) == 0
     }
 
     // The root of node `x`. On the way there each second node is linked to the one behind its next, which changes no root.
@@ -50,7 +59,7 @@ impl Graph {
             if upper == 0 {
                 return Node(y);
             }
-            table[5 * at as usize + 1] = upper;
+            table[2 * at as usize + 1] = upper;
             at = upper - 1;
         }
     }
@@ -61,7 +70,7 @@ impl Graph {
         ensures { λ r. ⌜ HeadOf (now (cells .entry)) (now (table .entry)) self (x .0) r ⌝ }
     {
         let i = x.0 as usize;
-        let start = table[5 * i] as usize;
+        let start = table[2 * i] as usize;
         cells[start]
     }
 
@@ -71,7 +80,7 @@ impl Graph {
         ensures { λ _. ⌜ Joins (now (cells .entry)) (now (table .entry)) (now (table .exit)) self (x .0) (y .0) ⌝ }
     {
         let i = x.0 as usize;
-        table[5 * i + 1] = y.0 + 1;
+        table[2 * i + 1] = y.0 + 1;
     }
 
     // Variable `y` becomes flexible if `x` is.
@@ -82,12 +91,13 @@ impl Graph {
         if self.head(cells, table, y) != Pattern::VAR {
             return;
         }
+        let rest = 2 * cells.len() + 2;
         let i = x.0 as usize;
-        if table[5 * i + 3] == 0 {
+        if table[rest + (3 * i + 1)] == 0 {
             return;
         }
         let j = y.0 as usize;
-        table[5 * j + 3] = 1;
+        table[rest + (3 * j + 1)] = 1;
     }
 
     // Root `x`, a variable, is bound to root `y`.
@@ -108,17 +118,18 @@ impl Graph {
         Graph { nodes: 0, used: 0 }
     }
 
-    // The row of the next node, and where the one behind it starts.
+    // The words of the next node, and where the one behind it starts.
     fn put_row(self, cells: &[u32], table: &mut [u32], sort: u32, flex: u32, rigid: u32, end: usize)
-        requires { ⌜ (5 * self .nodes + 6 ≤ length (now table)) × (end < 4294967296) ⌝ }
-        ensures { λ _. ⌜ Rows (now (table .entry)) (now (table .exit)) self sort flex rigid end ⌝ }
+        requires { ⌜ (self .nodes < length (now cells)) × (rowsEnd (now cells) ≤ length (now table)) × (end < 4294967296) ⌝ }
+        ensures { λ _. ⌜ Rows (now (cells .entry)) (now (table .entry)) (now (table .exit)) self sort flex rigid end ⌝ }
     {
-        let at = 5 * self.nodes;
+        let at = 2 * self.nodes;
         table[at + 1] = 0;
-        table[at + 2] = sort;
-        table[at + 3] = flex;
-        table[at + 4] = rigid;
-        table[at + 5] = end as u32;
+        table[at + 2] = end as u32;
+        let rest = 2 * cells.len() + 2 + 3 * self.nodes;
+        table[rest] = sort;
+        table[rest + 1] = flex;
+        table[rest + 2] = rigid;
     }
 
     // A variable more; a mark is set or 0.

@@ -1,5 +1,3 @@
 // The term graph in lent cells.
 pub mod graph;
-pub mod meet;
-pub mod pairs;
-pub mod unify;
+pub mod nodes;

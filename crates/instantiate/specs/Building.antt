@@ -24,7 +24,7 @@ use Rattle.graph.specs.declared.graph.Pushed.{Pushed}
 use Rattle.graph.specs.declared.graph.Pushed.the-variants.{At, Short}
 use Rattle.graph.specs.Cells.{rowsEnd, Laid, Shows, Unchanged}
 use Rattle.graph.specs.Pushes.{Pushes}
-use Rattle.graph.specs.Unifies.{Inner, inner-more}
+use Rattle.graph.specs.Inner.{Inner, inner-more}
 use Rattle.instantiate.specs.declared.terms.Place.{Place}
 use Rattle.instantiate.specs.declared.terms.Taken.{Taken}
 use Rattle.instantiate.specs.declared.terms.Taken.the-variants.{On, Short as Full}

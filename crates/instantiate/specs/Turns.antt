@@ -23,7 +23,7 @@ use Rattle.graph.specs.declared.graph.Graph.{Graph as Counts}
 use Rattle.graph.specs.declared.graph.Pushed.the-variants.{At, Short}
 use Rattle.graph.specs.Cells.{rowsEnd, Shows, Unchanged}
 use Rattle.graph.specs.Pushes.{Pushes}
-use Rattle.graph.specs.Unifies.{Inner, inner-more}
+use Rattle.graph.specs.Inner.{Inner, inner-more}
 use Rattle.instantiate.specs.declared.terms.Place.{Place}
 use Rattle.definition.specs.Laws.Suffix.{after, Ahead, a-variable, a-symbol, after-ahead, all-words}
 use Rattle.instantiate.specs.Suffix.{after-few, nodes-many, variable-nodes, symbol-nodes}

@@ -20,7 +20,7 @@ use Rattle.theory.specs.Unification.Acyclic.{ends-more}
 use Rattle.theory.specs.Unification.Circle.{all-upTo, acyclic-ends}
 use Rattle.theory.specs.Copies.Begin.{begins-refl, begins-trans}
 use Rattle.theory.specs.Copies.Push.{push-begins}
-use Rattle.graph.specs.Unifies.{Inner, inner-more}
+use Rattle.graph.specs.Inner.{Inner, inner-more}
 
 -- what holds of f holds of h, for numbers below n
 all-below : (n : ℕ) (f h : ℕ → Bool) (xs : List ℕ) → Below n xs → ((x : ℕ) → x < n → f x ≡ true → h x ≡ true) → all f xs ≡ true → all h xs ≡ true

@@ -13,8 +13,9 @@ use Rattle.theory.specs.Unification.Solve.{SameNodes}
 use Rattle.theory.specs.Unification.Forest.{Forest, Linked, root-inside, linked-forest}
 use Rattle.theory.specs.Unification.Join.{Joined, same-refl, same-trans, join-joined, bind-joined}
 use Rattle.theory.specs.Unification.Unify.{take-clashed, take-on}
-use Rattle.graph.specs.Meets.{meet-same, meet-left, meet-right, meet-rigid, meet-unlike, meet-alike}
-use Rattle.graph.specs.Unifies.{Inner, Within, meet-keeps}
+use Rattle.unify.specs.Meets.{meet-same, meet-left, meet-right, meet-rigid, meet-unlike, meet-alike}
+use Rattle.graph.specs.Inner.{Inner}
+use Rattle.unify.specs.Unifies.{Within, meet-keeps}
 
 -- ---- a node put in place of another
 -- what the new one has as the old one had, every node has as before

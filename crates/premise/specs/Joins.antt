@@ -12,8 +12,9 @@ use Rattle.store.specs.declared.memo.Memo.{Memo}
 use Rattle.graph.specs.declared.graph.Graph.{Graph as Counts}
 use Rattle.graph.specs.declared.unify.Outcome.the-variants.{Joined, Clash as Unlike}
 use Rattle.graph.specs.Cells.{rowsEnd, nodes-few, Shows, SameRows, shows-rows, Unchanged}
-use Rattle.graph.specs.Pairs.{pairsEnd}
-use Rattle.graph.specs.Unifies.{Inner, HoldsInner, Unifies}
+use Rattle.graph.specs.Stack.{pairsEnd}
+use Rattle.graph.specs.Inner.{Inner, HoldsInner}
+use Rattle.unify.specs.Unifies.{Unifies}
 use Rattle.premise.specs.declared.layout.Layout.{Layout}
 use Rattle.premise.specs.declared.premise.Taken.{Taken}
 use Rattle.premise.specs.declared.premise.Taken.the-variants.{On, Clash, Short}

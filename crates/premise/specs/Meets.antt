@@ -26,7 +26,7 @@ use Rattle.graph.specs.declared.graph.Graph.{Graph as Counts}
 use Rattle.graph.specs.declared.graph.Pushed.the-variants.{At, Short as Full}
 use Rattle.graph.specs.Cells.{rowsEnd, nodes-few, Shows}
 use Rattle.graph.specs.Pushes.{cells-shown}
-use Rattle.graph.specs.Unifies.{Inner, many-nodes}
+use Rattle.graph.specs.Inner.{Inner, many-nodes}
 use Rattle.instantiate.specs.Building.{Spells, Asked, Instantiates}
 use Rattle.instantiate.specs.Turns.{cells-more}
 use Rattle.premise.specs.declared.layout.Layout.{Layout}

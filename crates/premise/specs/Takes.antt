@@ -28,7 +28,7 @@ use Rattle.pack.specs.Reads.{Reads}
 use Rattle.pack.specs.Held.{Proper, Held, OfHeld, held-on, reads-on}
 use Rattle.graph.specs.declared.graph.Graph.{Graph as Counts}
 use Rattle.graph.specs.Cells.{rowsEnd, nodes-few, Shows}
-use Rattle.graph.specs.Unifies.{Inner, HoldsInner, many-nodes}
+use Rattle.graph.specs.Inner.{Inner, HoldsInner, many-nodes}
 use Rattle.copy.specs.Held.{Patterns, marksIn, Given, Made, Copies}
 use Rattle.copy.specs.declared.walk.Copied.the-variants as answers
 use Rattle.copy.specs.declared.walk.Copied.{Copied}

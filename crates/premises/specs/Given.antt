@@ -29,7 +29,7 @@ use Rattle.catalog.specs.declared.whole.Catalog.{Catalog}
 use Rattle.pack.specs.Spelt.{Spelt}
 use Rattle.graph.specs.declared.graph.Graph.{Graph as Counts}
 use Rattle.graph.specs.Cells.{Shows}
-use Rattle.graph.specs.Unifies.{Inner}
+use Rattle.graph.specs.Inner.{Inner}
 use Rattle.copy.specs.Held.{marksIn}
 use Rattle.keys.specs.declared.classes.Keying.{Keying}
 use Rattle.keys.specs.declared.classes.Counts.{Counts as KeyCounts}

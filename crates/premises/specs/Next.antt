@@ -39,7 +39,7 @@ use Rattle.pack.specs.Reads.{Reads, length-steps, ruleWords}
 use Rattle.pack.specs.Spelt.{Spelt, words-most}
 use Rattle.graph.specs.declared.graph.Graph.{Graph as Counts}
 use Rattle.graph.specs.Cells.{Shows}
-use Rattle.graph.specs.Unifies.{Inner, many-nodes}
+use Rattle.graph.specs.Inner.{Inner, many-nodes}
 use Rattle.copy.specs.Held.{Patterns, marksIn}
 use Rattle.kept.specs.Unified.{unify-same}
 use Rattle.kept.specs.FewArgs.{FewArgs, few-copy, few-instance, few-unify}

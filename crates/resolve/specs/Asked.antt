@@ -2,21 +2,19 @@
 use mathlib.Core.Path.{_≡_, refl, sym, ap, _∙_}
 use mathlib.Core.Bool.{Bool, true, false, _||_}
 use mathlib.Core.List.{List}
-use Prim.Native.Nat.{ℕ, zero, suc, _+_, _*_, _-_, _≤_, _<_}
+use Prim.Native.Nat.{ℕ, _+_, _-_, _≤_, _<_}
 use native.Mathlib.Omega.{arith}
-use borrow.Author.Tests.{lt-ltb}
-use lib.Dec.{ltb}
 use lib.ListN.{length, length-map, getD}
 use Rattle.definition.specs.Test.{never}
-use Rattle.definition.specs.Graph.{Vertex, Graph, vertex, root}
+use Rattle.definition.specs.Graph.{Graph, vertex, root}
 use Rattle.definition.specs.Store.{variableHead}
 use Rattle.theory.specs.Walks.Walk.{under-at, below-under}
 use Rattle.theory.specs.Walks.Levels.{Inner, argRoots, roots-variable, roots-applied}
 use Rattle.base.specs.Part.{put}
 use Rattle.graph.specs.declared.graph.Graph.{Graph as Counts}
-use Rattle.graph.specs.Cells.{startIn, markIn, vertexIn, length-graphIn, graph-at, rowsEnd, Shows, nodes-few}
+use Rattle.graph.specs.Cells.{startIn, length-graphIn, rowsEnd, Shows}
 use Rattle.graph.specs.Links.{Found}
-use Rattle.graph.specs.Pairs.{ArityOf, ArgumentOf, argument-there}
+use Rattle.graph.specs.Nodes.{ArityOf, ArgumentOf, FlexOf, argument-there}
 use Rattle.graph.specs.Joins.{HeadOf, head-variable, head-other}
 use Rattle.resolve.specs.declared.words.Table.{Table}
 use Rattle.resolve.specs.Words.{tableEnd, tableIn, Moves}
@@ -86,25 +84,11 @@ NumbersOf cells work t g x everyone r = (h : Graph) → Shows cells (tableIn t w
 pub graph-long : (cells table : List ℕ) (g : Counts) (h : Graph) → Shows cells table g h → length h ≡ g .nodes
 graph-long cells table g h S = sym (S .like .long) ∙ length-graphIn cells table (g .nodes)
 
--- the sort of a node, and its mark
+-- how many roots are to be read back ahead of a node
 module _ (cells table : List ℕ) (g : Counts) (h : Graph) (S : Shows cells table g h) (x : ℕ) (l : x < g .nodes) where
   -- it is a node of the graph
   same-node : x < length h
   same-node = omega (arith, graph-long cells table g h S)
-
-  -- its sort
-  pub sort-of : getD table (5 * x + 2) 0 ≡ vertex h x .sort
-  unfolding vertexIn
-  sort-of = sym (ap (λ (v : Vertex). v .sort) (graph-at cells table (g .nodes) x l)) ∙ S .like .nodes x same-node .sort
-
-  -- whether it is flexible
-  pub flex-of : ltb 0 (getD table (5 * x + 3) 0) ≡ vertex h x .flex
-  unfolding vertexIn
-  flex-of = marked (getD table (5 * x + 3) 0) ∙ sym (ap (λ (v : Vertex). v .flex) (graph-at cells table (g .nodes) x l)) ∙ S .like .nodes x same-node .flex
-    where
-      marked : (m : ℕ) → ltb 0 m ≡ markIn m
-      marked zero = refl
-      marked (suc m) = lt-ltb 0 (suc m) (omega arith)
 
   -- a variable has no roots to be read back ahead of it
   pub count-variable : (r : ℕ) → HeadOf cells table g x r → r ≡ variableHead → 0 ≡ length (argRoots h x)
@@ -120,12 +104,8 @@ numbers-all true f e = refl
 numbers-all false f e = never (cc)
 
 -- or those that are flexible
-pub numbers-flex : (cells table : List ℕ) (g : Counts) (h : Graph) → Shows cells table g h → (x : ℕ) → x < g .nodes → (everyone : Bool) → everyone ≡ false → (w : ℕ) → w ≡ getD table (5 * x + 3) 0 → ltb 0 w ≡ (everyone || vertex h x .flex)
-numbers-flex cells table g h S x l everyone e w q = ap (ltb 0) q ∙ flex-of cells table g h S x l ∙ sym (ap (λ (b : Bool). b || vertex h x .flex) e)
-
--- the row of a node stands in the table
-pub asking-row : (cells work : List ℕ) (t : Table) (g : Counts) (x : ℕ) → Asking cells work t g x → t .at + (5 * x + 5) < t .end
-asking-row cells work t g x A = let L = A .graphed .shows .laid in omega (arith, A .node, nodes-few cells (tableIn t work) g L, L .fits, A .graphed .room)
+pub numbers-flex : (cells table : List ℕ) (g : Counts) (h : Graph) → Shows cells table g h → (x : ℕ) (everyone : Bool) → everyone ≡ false → (f : Bool) → FlexOf cells table g x f → f ≡ (everyone || vertex h x .flex)
+numbers-flex cells table g h S x everyone e f q = q h S ∙ sym (ap (λ (b : Bool). b || vertex h x .flex) e)
 
 module _ (cells work : List ℕ) (t : Table) (g : Counts) (x i : ℕ) (A : Arguing cells work t g x i) where
   -- the argument stands in the cells

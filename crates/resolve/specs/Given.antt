@@ -32,11 +32,12 @@ use Rattle.lift.specs.Nodes.{laid-same}
 use Rattle.lift.specs.declared.walk.Lifted.{Lifted}
 use Rattle.graph.specs.declared.graph.Graph.{Graph as Counts}
 use Rattle.graph.specs.Cells.{rowsEnd, shows-rows}
+use Rattle.graph.specs.Nodes.{SortOf}
 use Rattle.resolve.specs.declared.words.Table.{Table}
 use Rattle.resolve.specs.Words.{valuesAt, patternsAt, numbersAt, tableEnd, tableIn, marksIn, wordOf, Says, Lies, Holding, Framed}
 use Rattle.resolve.specs.Kept.{lifts-on}
 use Rattle.resolve.specs.Moved.{taken-most, table-at, table-long, nodes-most, table-room, table-apart, lies-apart}
-use Rattle.resolve.specs.Asked.{graph-long, sort-of}
+use Rattle.resolve.specs.Asked.{graph-long}
 use Rattle.resolve.specs.Keys.{patternOf}
 use Rattle.resolve.specs.Roots.{Open, Named, Fixed, Applied, readsAs, Given}
 
@@ -143,11 +144,11 @@ module _ (bytes work words cells : List ℕ) (c : Catalog) (l : Lifted) (t : Tab
     number-none = unread-none cells table words g st n s (H .says) x (O .unread)
 
     -- what a variable with a new number is read back as
-    pub named-is : Named everyone x h → (key : List ℕ) (sort : ℕ) → sort ≡ getD table (5 * x + 2) 0 → key ≡ variableHead ∷ n ∷ sort ∷ [] → (p : ℕ) (s′ : List Node) → intern (nodes words st) (nodeWith key) ≡ stored p s′
+    pub named-is : Named everyone x h → (key : List ℕ) (sort : ℕ) → SortOf cells table g x sort → key ≡ variableHead ∷ n ∷ sort ∷ [] → (p : ℕ) (s′ : List Node) → intern (nodes words st) (nodeWith key) ≡ stored p s′
         → readsAs P h vs everyone x s ≡ resolvedOne p (numberedAs (s .state .numbering ++ (x ∷ [])) s′)
     unfolding resolveAt resolveVariable
     named-is N key sort q k p s′ e =
-        let m : variableNode (length (s .state .numbering)) (vertex h x .sort) ≡ nodeWith key = ap₂ variableNode number-count (sym (q ∙ sort-of cells table g h (H .lies .stands .shows) x node-given)) ∙ sym (ap nodeWith k ∙ node-of (variableNode n sort)) in
+        let m : variableNode (length (s .state .numbering)) (vertex h x .sort) ≡ nodeWith key = ap₂ variableNode number-count (sym (q h (H .lies .stands .shows))) ∙ sym (ap nodeWith k ∙ node-of (variableNode n sort)) in
         let i : intern (s .state .store) (variableNode (length (s .state .numbering)) (vertex h x .sort)) ≡ stored p s′ = ap₂ intern (H .says .store) m ∙ e in
         rw (N .0, resolveAt, number-none, resolveVariable, N .1) (ap (λ (o : Placing). resolvedOne (o .number) (numberedAs (s .state .numbering ++ (x ∷ [])) (o .store))) i)
 

@@ -9,7 +9,7 @@ use lib.Seq.{take-suc, take-suc-set, take-all}
 use Rattle.definition.specs.Graph.{Graph, vertex, root}
 use Rattle.graph.specs.declared.graph.Graph.{Graph as Counts}
 use Rattle.graph.specs.Cells.{Shows, nodes-few}
-use Rattle.graph.specs.Pairs.{ArityOf}
+use Rattle.graph.specs.Nodes.{ArityOf}
 use Rattle.graph.specs.Joins.{HeadOf}
 use Rattle.resolve.specs.declared.words.Table.{Table}
 use Rattle.resolve.specs.Words.{patternsAt, tableIn}

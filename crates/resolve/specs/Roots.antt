@@ -88,16 +88,15 @@ Gives bytes work words work′ words′ cells c l t st g n everyone x Q Short =
 
 -- ---- what is asked and answered where the code needs no more than this, whatever stands around it
 -- a variable to be numbered
-pub record Naming (work words cells : List ℕ) (l : Lifted) (t : Table) (st : Store) (n x : ℕ) : Type 0 where
+pub record Naming (work words cells : List ℕ) (l : Lifted) (t : Table) (st : Store) (g : Counts) (n x : ℕ) : Type 0 where
   pub bytes : List ℕ
   pub catalog : Catalog
-  pub counts : Counts
   pub everyone : Bool
-  pub opening : Opening bytes work words cells catalog l t st counts n everyone x (Named everyone x)
+  pub opening : Opening bytes work words cells catalog l t st g n everyone x (Named everyone x)
 
 -- it is
-abbrev pub Names : List ℕ → List ℕ → List ℕ → List ℕ → List ℕ → Lifted → Table → Store → ℕ → ℕ → Resolved → Type 0
-Names work words work′ words′ cells l t st n x r = (bytes : List ℕ) (c : Catalog) (g : Counts) (everyone : Bool) → Opening bytes work words cells c l t st g n everyone x (Named everyone x)
+abbrev pub Names : List ℕ → List ℕ → List ℕ → List ℕ → List ℕ → Lifted → Table → Store → Counts → ℕ → ℕ → Resolved → Type 0
+Names work words work′ words′ cells l t st g n x r = (bytes : List ℕ) (c : Catalog) (everyone : Bool) → Opening bytes work words cells c l t st g n everyone x (Named everyone x)
     → Gives bytes work words work′ words′ cells c l t st g n everyone x (Named everyone x) r
 
 -- a variable to be fixed

@@ -28,6 +28,7 @@ use Rattle.lift.specs.Lifts.{Apart, Answers}
 use Rattle.lift.specs.declared.walk.Lifted.{Lifted}
 use Rattle.graph.specs.declared.graph.Graph.{Graph as Counts}
 use Rattle.graph.specs.Cells.{Shows}
+use Rattle.graph.specs.Nodes.{SortOf}
 use Rattle.resolve.specs.declared.words.Table.{Table}
 use Rattle.resolve.specs.declared.root.Resolved.{Resolved}
 use Rattle.resolve.specs.declared.root.Resolved.the-variants as read
@@ -93,7 +94,7 @@ module _ (bytes work words cells : List ℕ) (c : Catalog) (l : Lifted) (t : Tab
     gives-so R f work′ words′ read.Short G = (G .0, λ P h vs s H O q. G .1 P h vs s H O (f h (H .lies .stands .shows) q))
 
   -- ---- by a number
-  module _ (K : Opening bytes work words cells c l t st g n everyone x (Named everyone x)) (key : List ℕ) (sort : ℕ) (q : sort ≡ getD (tableIn t work) (5 * x + 2) 0) (k : key ≡ variableHead ∷ n ∷ sort ∷ []) (work₁ words′ : List ℕ) where
+  module _ (K : Opening bytes work words cells c l t st g n everyone x (Named everyone x)) (key : List ℕ) (sort : ℕ) (q : SortOf cells (tableIn t work) g x sort) (k : key ≡ variableHead ∷ n ∷ sort ∷ []) (work₁ words′ : List ℕ) where
     -- there is no room for it
     pub number-short : Interns work words work₁ words′ l st key Short → Gives bytes work words work₁ words′ cells c l t st g n everyone x (Named everyone x) read.Short
     number-short A = (

@@ -31,13 +31,16 @@ fn read_number(
     l: Lifted,
     t: Table,
     st: Store,
+    g: Graph,
     numbered: usize,
     x: Node,
 ) -> Resolved
-    requires { ⌜ Naming (now work) (now words) (now cells) l t st numbered (x .0) ⌝ }
-    ensures { λ r. ⌜ Names (now (work .entry)) (now (words .entry)) (now (work .exit)) (now (words .exit)) (now (cells .entry)) l t st numbered (x .0) r ⌝ }
+    requires { ⌜ Naming (now work) (now words) (now cells) l t st g numbered (x .0) ⌝ }
+    ensures { λ r. ⌜ Names (now (work .entry)) (now (words .entry)) (now (work .exit)) (now (words .exit)) (now (cells .entry)) l t st g numbered (x .0) r ⌝ }
 {
-    let sort = word_at(work, t, 5 * x.0 as usize + 2);
+    let a = t.at;
+    let e = t.end;
+    let sort = g.sort(cells, &work[a..e], x);
     let mut key = [0; 3];
     key[0] = Pattern::VAR;
     key[1] = numbered as u32;
@@ -93,7 +96,7 @@ fn read_variable(
     ensures { λ r. ⌜ Gives (now (pack .entry)) (now (work .entry)) (now (words .entry)) (now (work .exit)) (now (words .exit)) (now (cells .entry)) c l t st g numbered everyone (x .0) (Variable (x .0)) r ⌝ }
 {
     if numbers(work, cells, t, g, x, everyone) {
-        return read_number(work, words, cells, l, t, st, numbered, x);
+        return read_number(work, words, cells, l, t, st, g, numbered, x);
     }
     read_value(pack, work, words, cells, c, l, t, st, numbered, x)
 }

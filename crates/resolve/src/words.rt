@@ -86,7 +86,9 @@ pub fn numbers(work: &[u32], cells: &[u32], t: Table, g: Graph, x: Node, everyon
     if everyone {
         return true;
     }
-    0 < word_at(work, t, 5 * x.0 as usize + 3)
+    let a = t.at;
+    let e = t.end;
+    g.is_flexible(cells, &work[a..e], x)
 }
 
 // The root of argument `i` of node `x`.

@@ -29,7 +29,7 @@ use Rattle.pack.specs.Reads.{length-steps}
 use Rattle.pack.specs.Held.{Held}
 use Rattle.graph.specs.declared.graph.Graph.{Graph as Counts}
 use Rattle.graph.specs.Cells.{rowsEnd, nodes-few, Shows, Unchanged}
-use Rattle.graph.specs.Unifies.{Inner, HoldsInner}
+use Rattle.graph.specs.Inner.{Inner, HoldsInner}
 use Rattle.circle.specs.Circles.{Tells}
 use Rattle.circle.specs.Words.{coloursEnd, TellsIn}
 use Rattle.fix.specs.Words.{Stands, Framed}

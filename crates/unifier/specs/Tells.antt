@@ -18,7 +18,8 @@ use Rattle.graph.specs.declared.graph.Graph.{Graph as Counts}
 use Rattle.graph.specs.declared.unify.Outcome.the-variants.{Joined, Clash}
 use Rattle.graph.specs.Cells.{Shows, nodes-few}
 use Rattle.graph.specs.Links.{Found}
-use Rattle.graph.specs.Unifies.{Inner, Unifies, many-nodes}
+use Rattle.graph.specs.Inner.{Inner, many-nodes}
+use Rattle.unify.specs.Unifies.{Unifies}
 use Rattle.circle.specs.Circles.{Tells}
 use Rattle.circle.specs.Words.{coloursEnd}
 use Rattle.unifier.specs.declared.Unification.{Unification}

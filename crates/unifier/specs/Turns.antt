@@ -19,7 +19,7 @@ use Rattle.graph.specs.declared.graph.Graph.{Graph as Counts}
 use Rattle.graph.specs.declared.graph.Pushed.the-variants.{At, Short}
 use Rattle.graph.specs.Cells.{markIn, Shows}
 use Rattle.graph.specs.Pushes.{Pushes, cells-shown}
-use Rattle.graph.specs.Unifies.{Inner, inner-more, many-nodes}
+use Rattle.graph.specs.Inner.{Inner, inner-more, many-nodes}
 use Rattle.unifier.specs.declared.Turn.{Turn}
 use Rattle.unifier.specs.declared.Turn.the-variants.{Next, Broken, Full}
 use Rattle.unifier.specs.declared.Read.{Read}

@@ -22,7 +22,7 @@ use Rattle.pack.specs.Held.{Proper, Held, OfHeld, held-on, reads-on}
 use Rattle.theory.specs.Walks.Levels.{Inner}
 use Rattle.graph.specs.declared.graph.Graph.{Graph as Counts}
 use Rattle.graph.specs.Cells.{Shows}
-use Rattle.graph.specs.Unifies.{many-nodes}
+use Rattle.graph.specs.Inner.{many-nodes}
 use Rattle.fix.specs.Words.{tableIn, Stands, Placed, Framed, Values, framed-none, framed-then, framed-same, placed-on}
 use Rattle.fix.specs.Stores.{Clears}
 use Rattle.fix.specs.declared.words.Valued.{Valued}

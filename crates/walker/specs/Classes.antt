@@ -29,7 +29,7 @@ use Rattle.lift.specs.declared.walk.Lifted.{Lifted}
 use Rattle.graph.specs.declared.graph.Graph.{Graph as Counts}
 use Rattle.graph.specs.declared.graph.Pushed.the-variants.{At, Short}
 use Rattle.graph.specs.Pushes.{cells-shown}
-use Rattle.graph.specs.Unifies.{many-nodes}
+use Rattle.graph.specs.Inner.{many-nodes}
 use Rattle.instantiate.specs.declared.terms.Place.{Place}
 use Rattle.instantiate.specs.Building.{Outside}
 use Rattle.resolve.specs.declared.words.Table.{Table}

@@ -27,7 +27,7 @@ use Rattle.lift.specs.Nodes.{laid-same}
 use Rattle.lift.specs.declared.walk.Lifted.{Lifted}
 use Rattle.graph.specs.declared.graph.Graph.{Graph as Counts}
 use Rattle.graph.specs.Pushes.{cells-shown}
-use Rattle.graph.specs.Unifies.{many-nodes}
+use Rattle.graph.specs.Inner.{many-nodes}
 use Rattle.copy.specs.declared.walk.Copying.{Copying}
 use Rattle.copy.specs.Held.{marksIn, Patterns}
 use Rattle.resolve.specs.declared.words.Table.{Table}

@@ -1,10 +1,9 @@
 //! The speed of the library's step check over generated packs.
-use crate::numbers::{Numbers, median};
+use crate::numbers::{Numbers, judged, median};
 use crate::pace::{Call, measure};
 use crate::read::{GOOD, SHORT, check, parse};
 use certpack::pack::{Named, PREDICATE, Pack, Rule, Step, Symbol, Term};
 use std::fmt::Write as _;
-use std::io::Write as _;
 
 const SIZES: [usize; 3] = [1_000, 10_000, 100_000];
 /// A step of the largest pack may take so many times what one of the smallest takes.
@@ -104,13 +103,10 @@ pub fn report(quick: bool) -> Result<String, String> {
         growth(2)
     );
     let checking = growth(2);
-    if quick || checking <= MOST_RATIO {
-        return Ok(out);
-    }
-    let _ = std::io::stdout().write_all(out.as_bytes());
-    Err(format!(
-        "the time a step of checking grows by {checking:.2}, more than {MOST_RATIO}"
-    ))
+    let grown = (checking.is_nan() || checking > MOST_RATIO).then(|| {
+        format!("the time a step of checking grows by {checking:.2}, more than {MOST_RATIO}")
+    });
+    judged(out, quick, grown)
 }
 
 // Symbols, and rules by number.

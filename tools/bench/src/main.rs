@@ -96,8 +96,8 @@ fn main() -> ExitCode {
 fn run(args: &[&str]) -> Result<String, Fault> {
     match args {
         ["--help" | "-h" | "help"] => Ok(HELP.into()),
-        ["intern"] => intern(false),
-        ["intern", "--quick"] => intern(true),
+        ["intern"] => beside("intern", false),
+        ["intern", "--quick"] => beside("intern", true),
         ["vectors", folder] => Ok(recorded::check(folder)?),
         ["reads", folder] => Ok(reads::check(folder)?),
         ["read"] => Ok(pace::report(false)?),
@@ -106,41 +106,29 @@ fn run(args: &[&str]) -> Result<String, Fault> {
         ["check"] => Ok(check_pace::report(false)?),
         ["check", "--quick"] => Ok(check_pace::report(true)?),
         ["unify"] => Ok(unify::check()?),
-        ["unify", "--times"] => unify_times(false),
-        ["unify", "--times", "--quick"] => unify_times(true),
-        ["walk", "--times"] => walk_times(false),
-        ["walk", "--times", "--quick"] => walk_times(true),
+        ["unify", "--times"] => beside("unify --times", false),
+        ["unify", "--times", "--quick"] => beside("unify --times", true),
+        ["walk", "--times"] => beside("walk --times", false),
+        ["walk", "--times", "--quick"] => beside("walk --times", true),
         ["walk", folder] => Ok(walk::check(folder)?),
         _ => Err(cli::unknown(args)),
     }
 }
 
+/// The times of `what` in the library and in the original.
 #[cfg(feature = "original")]
-fn intern(quick: bool) -> Result<String, Fault> {
-    Ok(intern::report(quick)?)
+fn beside(what: &str, quick: bool) -> Result<String, Fault> {
+    let report = match what {
+        "intern" => intern::report,
+        "unify --times" => unify_pace::report,
+        _ => walk_pace::report,
+    };
+    Ok(report(quick)?)
 }
 
 #[cfg(not(feature = "original"))]
-fn intern(_: bool) -> Result<String, Fault> {
-    cli::call("intern: the original is not in this build (feature `original`)")
-}
-
-#[cfg(feature = "original")]
-fn unify_times(quick: bool) -> Result<String, Fault> {
-    Ok(unify_pace::report(quick)?)
-}
-
-#[cfg(not(feature = "original"))]
-fn unify_times(_: bool) -> Result<String, Fault> {
-    cli::call("unify --times: the original is not in this build (feature `original`)")
-}
-
-#[cfg(feature = "original")]
-fn walk_times(quick: bool) -> Result<String, Fault> {
-    Ok(walk_pace::report(quick)?)
-}
-
-#[cfg(not(feature = "original"))]
-fn walk_times(_: bool) -> Result<String, Fault> {
-    cli::call("walk --times: the original is not in this build (feature `original`)")
+fn beside(what: &str, _: bool) -> Result<String, Fault> {
+    cli::call(format!(
+        "{what}: the original is not in this build (feature `original`)"
+    ))
 }

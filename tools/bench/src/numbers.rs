@@ -1,4 +1,4 @@
-//! Drawn numbers, the same in every run, and the middle one of several.
+//! Drawn numbers, the same in every run; the middle one of several; what a report of times comes to.
 
 /// Xorshift numbers.
 pub struct Numbers(u64);
@@ -23,4 +23,15 @@ impl Numbers {
 pub fn median(mut times: Vec<f64>) -> f64 {
     times.sort_by(f64::total_cmp);
     times[times.len() / 2]
+}
+
+/// A report; or what grew too fast in it, behind the report itself, unless it was a quick one.
+pub fn judged(report: String, quick: bool, grown: Option<String>) -> Result<String, String> {
+    match grown {
+        Some(what) if !quick => {
+            print!("{report}");
+            Err(what)
+        }
+        _ => Ok(report),
+    }
 }

@@ -1,10 +1,9 @@
 //! The speed of the library's reader over generated packs of three kinds.
-use crate::numbers::{Numbers, median};
+use crate::numbers::{Numbers, judged, median};
 use crate::read::{Answer, GOOD, SHORT, parse, work_for};
 use certpack::pack::{Named, PREDICATE, Pack, Rule, Step, Symbol, Term};
 use std::fmt::Write as _;
 use std::hint::black_box;
-use std::io::Write as _;
 use std::time::{Duration, Instant};
 
 const SIZES: [usize; 3] = [1_000, 100_000, 10_000_000];
@@ -108,14 +107,13 @@ pub fn report(quick: bool) -> Result<String, String> {
     }
     let mut out = table(&rows, rounds);
     let slow = growth(&rows, &mut out);
-    if quick || slow.is_empty() {
-        return Ok(out);
-    }
-    let _ = std::io::stdout().write_all(out.as_bytes());
-    Err(format!(
-        "the time a byte of reading grows by more than {MOST_RATIO}: {}",
-        slow.join(", ")
-    ))
+    let grown = (!slow.is_empty()).then(|| {
+        format!(
+            "the time a byte of reading grows by more than {MOST_RATIO}: {}",
+            slow.join(", ")
+        )
+    });
+    judged(out, quick, grown)
 }
 
 /// A sort of call: with so many words of work less than the least it gives this answer.

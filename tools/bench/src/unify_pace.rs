@@ -1,8 +1,8 @@
 //! The speed of the library's unification beside the original's, on terms of four kinds.
 use crate::generalize::door;
+use crate::numbers::judged;
 use crate::unify::{Buffers, JOINED, Lent, Node, READ, UNIFY, words};
 use std::fmt::Write as _;
-use std::io::Write as _;
 use std::time::Instant;
 
 /// The second size is four times the first: unification that is linear takes four times as
@@ -92,14 +92,13 @@ pub fn report(quick: bool) -> Result<String, String> {
         );
     }
     let slow = growth(&rows, &mut out);
-    if quick || slow.is_empty() {
-        return Ok(out);
-    }
-    let _ = std::io::stdout().write_all(out.as_bytes());
-    Err(format!(
-        "four times the size takes more than {MOST_GROWTH} times as long: {}",
-        slow.join(", ")
-    ))
+    let grown = (!slow.is_empty()).then(|| {
+        format!(
+            "four times the size takes more than {MOST_GROWTH} times as long: {}",
+            slow.join(", ")
+        )
+    });
+    judged(out, quick, grown)
 }
 
 /// The time of four times the size over that of the size; answers the kinds that grow too

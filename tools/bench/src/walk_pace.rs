@@ -1,5 +1,6 @@
 //! `Analysis::copy` and `Analysis::resolve` of the original beside the library's `copy_pattern`.
 use crate::generalize::door::Walker;
+use crate::numbers::judged;
 use crate::walk::{Asked, Lent, Store, VAR, Walked, words};
 use std::fmt::Write as _;
 use std::hint::black_box;
@@ -130,13 +131,7 @@ fn measure_all(quick: bool) -> Result<String, String> {
         }
     }
     let out = table(&rows, rounds);
-    match (quick, grown(&rows)) {
-        (false, Some(what)) => {
-            print!("{out}");
-            Err(what)
-        }
-        _ => Ok(out),
-    }
+    judged(out, quick, grown(&rows))
 }
 
 fn measure(family: &Family, n: usize, rounds: usize) -> Result<Row, String> {

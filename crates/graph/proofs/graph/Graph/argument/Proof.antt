@@ -3,7 +3,7 @@ use borrow.Author.Needs.{needs}
 use Prim.Native.Nat.{_*_}
 use native.Mathlib.Omega.{arith}
 use Rattle.graph.specs.Cells.{room}
-use Rattle.graph.specs.Pairs.{end-there, argument-of}
+use Rattle.graph.specs.Nodes.{end-there, argument-of}
 use Rattle.graph.proofs.graph.Graph.argument.Statement.{statement}
 use Rattle.graph.proofs.graph.Graph.argument.Tie as tie
 
@@ -18,7 +18,7 @@ argument-spec =
     (λ c. omega (arith, room _ _ _ (c .before .pre .0), c .before .pre .1))
     (λ c. omega (arith, room _ _ _ (c .before .pre .0), c .before .pre .1))
     (λ c. omega (arith, room _ _ _ (c .before .before .pre .0), c .before .before .pre .1))
-    (λ c. omega (arith, c .shared-slice-known .given (5 * c .before .before .args .x .0)))
+    (λ c. omega (arith, c .shared-slice-known .given (2 * c .before .before .args .x .0)))
     (λ c. omega (arith, end-there _ _ _ (c .before .before .pre .0) _ (c .before .before .pre .1), c .before .before .pre .0 .small, c .before .before .pre .2))
     (λ c. omega (arith, end-there _ _ _ (c .before .before .pre .0) _ (c .before .before .pre .1), c .before .before .pre .0 .small, c .before .before .pre .2))
     (λ c. omega (arith, end-there _ _ _ (c .before .before .pre .0) _ (c .before .before .pre .1), c .before .before .pre .0 .small, c .before .before .pre .2))

@@ -59,7 +59,7 @@ loop-again c =
     let e : linkWord (c .before .before .before .before .before .before .loop .table) (c .before .before .before .before .before .before .loop .at) ≡ suc (u - 1) = omega (arith, c .before .before .before .before .link .ensures, c .before .before .before .if1 .left) in
     let f : linkWord (c .before .before .before .before .before .before .loop .table) (u - 1) ≡ suc (w - 1) = omega (arith, c .before .link2 .ensures, c .if2 .left) in
     let s : suc (w - 1) ≡ w = omega (arith, c .if2 .left) in
-    (length-set (c .before .before .before .before .before .before .loop .table) (5 * c .before .before .before .before .before .before .loop .at + 1) w ∙ c .before .before .before .before .before .before .loop .inv .0, rw s at (seeking-on _ _ _ _ _ _ (c .before .before .before .before .before .before .loop .inv .1) (c .before .before .before .before .before .before .before .before .before .pre .0) (u - 1) e (w - 1) f))
+    (length-set (c .before .before .before .before .before .before .loop .table) (2 * c .before .before .before .before .before .before .loop .at + 1) w ∙ c .before .before .before .before .before .before .loop .inv .0, rw s at (seeking-on _ _ _ _ _ _ (c .before .before .before .before .before .before .loop .inv .1) (c .before .before .before .before .before .before .before .before .before .pre .0) (u - 1) e (w - 1) f))
 
 pub find-spec : {M : Type 1} → statement M
 find-spec =

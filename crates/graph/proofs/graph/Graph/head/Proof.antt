@@ -21,7 +21,7 @@ head-spec =
     (λ c. omega (arith, room _ _ _ (c .before .pre .0), c .before .pre .1))
     (λ c. omega (arith, room _ _ _ (c .before .pre .0), c .before .pre .1))
     (λ c. omega (arith, room _ _ _ (c .before .before .pre .0), c .before .before .pre .1))
-    (λ c. omega (arith, c .shared-slice-known .given (5 * c .before .before .args .x .0)))
+    (λ c. omega (arith, c .shared-slice-known .given (2 * c .before .before .args .x .0)))
     (λ c. let h = head-there _ _ _ (c .before .before .pre .0) _ (c .before .before .pre .1) in omega (arith, c .before .before .pre .0 .small))
     read-fits
     returns)

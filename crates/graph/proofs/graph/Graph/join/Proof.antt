@@ -2,12 +2,12 @@
 use borrow.Author.Needs.{needs}
 use native.Mathlib.Omega.{arith}
 use Rattle.graph.specs.Cells.{room, nodes-few}
-use Rattle.graph.specs.Joins.{shows-joined, behind-row}
+use Rattle.graph.specs.Joins.{shows-joined, behind-link}
 use Rattle.graph.proofs.graph.Graph.join.Statement.{statement}
 use Rattle.graph.proofs.graph.Graph.join.Tie as tie
 
 returns : tie.Need-returns
-returns c = (λ g S. shows-joined _ _ _ g S _ _ (c .before .before .pre .1), behind-row _ _ _ (c .before .before .pre .0) _ 1 _ (c .before .before .pre .1 .left) (omega arith))
+returns c = (λ g S. shows-joined _ _ _ g S _ _ (c .before .before .pre .1), behind-link _ _ _ (c .before .before .pre .0) _ _ (c .before .before .pre .1 .left))
 
 pub join-spec : {M : Type 1} → statement M
 join-spec =

@@ -17,7 +17,9 @@ put-row-requires : tie.Need-put-row-requires
 put-row-requires c κs =
     let L = c .before .before .before .before .before .before .before .before .before .before .pre in
     let n = nodes-few _ _ _ L in
-    (omega (arith, L .wide, L .fits, c .before .before .before .before .before .before .if1 .left), omega (arith, L .small, L .fits, c .before .before .before .before .before .before .if1 .left))
+    let a = c .before .before .before .before .before .before .before .before .before .before .args in
+    let m = pushed-long (a .cells .now) (a .args .now) (c .before .before .before .before .copy-words .last .1 .0) (a .self .used) (a .head) (a .self .used + 1 + length (a .args .now)) refl (omega (arith, L .fits, c .before .before .before .before .before .before .if1 .left)) (c .before .before .before .before .copy-words .ensures) in
+    (omega (arith, m, L .fits, c .before .before .before .before .before .before .if1 .left), omega (arith, m, L .wide), omega (arith, L .small, L .fits, c .before .before .before .before .before .before .if1 .left))
 
 same-length : tie.Need-same-length
 same-length c =

@@ -2,6 +2,7 @@
 use borrow.Author.Needs.{needs}
 use mathlib.Core.Path.{refl}
 use native.Mathlib.Omega.{arith}
+use lib.ListN.{length-set}
 use Rattle.definition.specs.Graph.{variableVertex}
 use Rattle.graph.specs.Cells.{markIn, nodes-few}
 use Rattle.graph.specs.Pushes.{no-room, var-pushed}
@@ -15,7 +16,7 @@ put-row-requires : tie.Need-put-row-requires
 put-row-requires c κs =
     let L = c .before .before .before .before .before .pre in
     let n = nodes-few _ _ _ L in
-    (omega (arith, L .wide, L .fits, c .before .before .if1 .left), omega (arith, L .small, c .before .before .if1 .left))
+    (simp length-set (omega (arith, c .before .before .if1 .left)), simp length-set (omega (arith, L .wide)), omega (arith, L .small, c .before .before .if1 .left))
 
 returns-2 : tie.Need-returns-2
 returns-2 c = var-pushed _ _ _ _ _ refl (c .before .before .before .before .before .before .before .before .pre) (omega (arith, c .before .before .before .before .before .if1 .left)) _ _ _ (c .before .before .put-row .ensures)

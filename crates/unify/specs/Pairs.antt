@@ -1,31 +1,18 @@
--- The pairs still to be taken, on a stack of two words each behind the rows.
+-- The pairs still to be taken.
 use mathlib.Core.Path.{_≡_, refl, sym, ap, ap₂, subst, _∙_}
-use mathlib.Core.Bool.{Bool, true, false, not}
 use mathlib.Core.List.{List, [], _∷_}
 use Prim.Native.Nat.{ℕ, zero, suc, _+_, _*_, _-_, _≤_, _<_, min}
 use native.Mathlib.Omega.{arith}
 use native.Mathlib.Numerals.{add-one}
-use borrow.Author.Tests.{eq-eqb, ne-eqb}
-use lib.Dec.{eqb}
 use lib.ListN.{length, getD, set, drop, length-set, length-drop}
 use lib.Seq.{drop-cons, getD-set-same, getD-set-other}
-use Rattle.definition.specs.Graph.{Vertex, Graph, Pair, vertex, isVar, isFree, lastFirst}
-use Rattle.base.specs.Part.{part, length-part, part-at}
+use Rattle.definition.specs.Graph.{Graph, Pair, vertex, lastFirst}
 use Rattle.graph.specs.declared.graph.Graph.{Graph as Counts}
-use Rattle.graph.specs.declared.pairs.Pairs.{Pairs}
-use Rattle.graph.specs.Cells.{startIn, rigidWord, markIn, vertexIn, length-graphIn, graph-at, rowsEnd, Laid, Shows, start-before, SameRows, rows-same, rows-then, rows-set, shows-rows, Unchanged, unchanged-same, unchanged-then, unchanged-set}
+use Rattle.graph.specs.Cells.{startIn, rowsEnd, Shows, SameRows, rows-same, rows-then, rows-set, shows-rows, Unchanged, unchanged-same, unchanged-then, unchanged-set}
 use Rattle.graph.specs.Links.{Holds}
-
--- where the stack ends: a pair for each cell, and one more
-abbrev pub pairsEnd : List ℕ → ℕ
-pairsEnd words = rowsEnd words + 2 * length words + 2
-
--- the words of the pair behind top others
-abbrev pub leftWord : List ℕ → List ℕ → ℕ → ℕ
-leftWord words table top = getD table (rowsEnd words + 2 * top) 0
-
-abbrev pub rightWord : List ℕ → List ℕ → ℕ → ℕ
-rightWord words table top = getD table (rowsEnd words + 2 * top + 1) 0
+use Rattle.graph.specs.Nodes.{ArityOf, ArgumentOf, arity-of, argument-there}
+use Rattle.graph.specs.Stack.{pairsEnd, leftWord, rightWord, pairsIn, pair, pairs-more}
+use Rattle.unify.specs.declared.pairs.Pairs.{Pairs}
 
 -- they are the nodes named, if there is a pair
 abbrev pub Topmost : List ℕ → List ℕ → Pairs → Type 0
@@ -38,35 +25,6 @@ topmost-same words table table′ p U T t e = (
   T t e .1 ∙ sym (U .words (rowsEnd words + 2 * t + 1) (omega arith)),
 )
 
--- the first n pairs from a place on, the last one on top
-unfoldable pub pairsIn : ℕ → List ℕ → ℕ → List Pair
-pairsIn from table zero = []
-pairsIn from table (suc n) = record { left = getD table (from + 2 * n) 0; right = getD table (from + 2 * n + 1) 0 } ∷ pairsIn from table n
-
-pub length-pairsIn : (from : ℕ) (table : List ℕ) (n : ℕ) → length (pairsIn from table n) ≡ n
-unfolding pairsIn
-length-pairsIn from table zero = refl
-length-pairsIn from table (suc n) = ap suc (length-pairsIn from table n)
-
--- they are the same where the words are
-pub pairs-same : (from : ℕ) (table table′ : List ℕ) → Unchanged from table table′ → (n : ℕ) → pairsIn from table′ n ≡ pairsIn from table n
-unfolding pairsIn
-pairs-same from table table′ U zero = refl
-pairs-same from table table′ U (suc n) =
-    ap₂ (λ (p : Pair) (ps : List Pair). p ∷ ps)
-    (ap₂ (λ (a b : ℕ). record { left = a; right = b }) (U .words (from + 2 * n) (omega arith)) (U .words (from + 2 * n + 1) (omega arith)))
-    (pairs-same from table table′ U n)
-
--- of whatever graph is held: how many arguments a node has, one of them, whether it is a free variable
-abbrev pub ArityOf : List ℕ → List ℕ → Counts → ℕ → ℕ → Type 0
-ArityOf words table s x r = (g : Graph) → Shows words table s g → r ≡ length (vertex g x .args)
-
-abbrev pub ArgumentOf : List ℕ → List ℕ → Counts → ℕ → ℕ → ℕ → Type 0
-ArgumentOf words table s x i r = (g : Graph) → Shows words table s g → r ≡ getD (vertex g x .args) i 0
-
-abbrev pub FreeOf : List ℕ → List ℕ → Counts → ℕ → Bool → Type 0
-FreeOf words table s x r = (g : Graph) → Shows words table s g → r ≡ isFree (vertex g x)
-
 -- behind so many pairs there is room for the arguments of x
 abbrev pub PairsRoom : List ℕ → List ℕ → ℕ → ℕ → Type 0
 PairsRoom words table top x = (rowsEnd words + 2 * top + 2 * (startIn table (x + 1) - (startIn table x + 1)) ≤ length table) × (2 * top + 2 * (startIn table (x + 1) - (startIn table x + 1)) ≤ 2 * length words + 2)
@@ -76,85 +34,6 @@ pub record PairsOn (words table table′ : List ℕ) (s : Counts) (top x y r : �
   pub rows : SameRows words table table′
   pub beyond : Unchanged (pairsEnd words) table table′
   pub pairs : (g : Graph) → Shows words table s g → pairsIn (rowsEnd words) table′ r ≡ lastFirst (vertex g x .args) (vertex g y .args) (pairsIn (rowsEnd words) table top)
-
--- ---- a node's arguments
--- a node ends where the next one starts, however that is written
-next-start : (table : List ℕ) (x : ℕ) → startIn table (x + 1) ≡ startIn table (suc x)
-next-start table x = ap (startIn table) (add-one x)
-
-pub end-word : (table : List ℕ) (x : ℕ) → getD table (5 * x + 5) 0 ≡ startIn table (x + 1)
-end-word table x = let e : 5 * x + 5 ≡ 5 * (x + 1) = omega arith in ap (λ (k : ℕ). getD table k 0) e
-
--- behind its head, and within the cells
-module _ (words table : List ℕ) (s : Counts) (L : Laid words table s) (x : ℕ) (l : x < s .nodes) where
-  pub head-first : startIn table x + 1 ≤ startIn table (x + 1)
-  head-first = omega (arith, next-start table x, L .rising x l)
-
-  pub end-there : startIn table (x + 1) ≤ length words
-  end-there = let t = start-before words table s L (s .nodes - suc x) (suc x) (omega arith) in omega (arith, next-start table x, L .fits)
-
-module _ (words table : List ℕ) (s : Counts) (g : Graph) (S : Shows words table s g) (x : ℕ) (l : x < s .nodes) where
-  same-node : x < length g
-  same-node = omega (arith, length-graphIn words table (s .nodes), S .like .long)
-
-  args-of : part (startIn table x + 1) (startIn table (suc x) - (startIn table x + 1)) words ≡ vertex g x .args
-  unfolding vertexIn
-  args-of = sym (ap (λ (v : Vertex). v .args) (graph-at words table (s .nodes) x l)) ∙ S .like .nodes x same-node .args
-
-  pub arity-of : startIn table (x + 1) - (startIn table x + 1) ≡ length (vertex g x .args)
-  arity-of =
-      let p = length-part (startIn table x + 1) (startIn table (suc x) - (startIn table x + 1)) words (omega (arith, next-start table x, head-first words table s (S .laid) x l, end-there words table s (S .laid) x l)) in
-      omega (arith, next-start table x, p, ap (λ (a : List ℕ). length a) args-of)
-
-  pub argument-of : (i : ℕ) → startIn table x + 1 + i < startIn table (x + 1) → getD words (startIn table x + 1 + i) 0 ≡ getD (vertex g x .args) i 0
-  argument-of i h =
-      sym (part-at (startIn table x + 1) (startIn table (suc x) - (startIn table x + 1)) words i (omega (arith, next-start table x)))
-      ∙ ap (λ (a : List ℕ). getD a i 0) args-of
-
-  -- an argument is one of those that the count has
-  pub argument-there : (i : ℕ) → i < length (vertex g x .args) → startIn table x + 1 + i < startIn table (x + 1)
-  argument-there i h = omega (arith, arity-of, h)
-
-  -- ---- free variables: no application is one, a variable is one if it has no rigid mark
-  pub free-none : isVar (vertex g x) ≡ false → false ≡ isFree (vertex g x)
-  unfolding isFree
-  free-none e = rw (e, isFree)
-
-  rigid-of : markIn (rigidWord table x) ≡ vertex g x .rigid
-  unfolding vertexIn
-  rigid-of = sym (ap (λ (v : Vertex). v .rigid) (graph-at words table (s .nodes) x l)) ∙ S .like .nodes x same-node .rigid
-
-  pub free-mark : isVar (vertex g x) ≡ true → eqb (rigidWord table x) 0 ≡ isFree (vertex g x)
-  unfolding isFree
-  free-mark e = rw (e, isFree, ← rigid-of) (unmarked (rigidWord table x))
-    where
-      unmarked : (m : ℕ) → eqb m 0 ≡ not (markIn m)
-      unmarked zero = eq-eqb zero 0 refl
-      unmarked (suc m) = ne-eqb (suc m) 0 (λ e. omega (arith, e))
-
--- ---- the stack
-abbrev pair : ℕ → ℕ → Pair
-pair a b = record { left = a; right = b }
-
--- what stands behind the pairs is no matter to them
-pub pairs-kept : (from : ℕ) (table : List ℕ) (n i v : ℕ) → from + 2 * n ≤ i → pairsIn from (set table i v) n ≡ pairsIn from table n
-unfolding pairsIn
-pairs-kept from table zero i v h = refl
-pairs-kept from table (suc n) i v h =
-    ap₂ (λ (p : Pair) (ps : List Pair). p ∷ ps)
-    (ap₂ pair (getD-set-other table i (from + 2 * n) v 0 (λ e. omega (arith, e))) (getD-set-other table i (from + 2 * n + 1) v 0 (λ e. omega (arith, e))))
-    (pairs-kept from table n i v (omega arith))
-
--- a pair more
-pub pairs-more : (from : ℕ) (table : List ℕ) (n a b : ℕ) → from + 2 * n + 2 ≤ length table → pairsIn from (set (set table (from + 2 * n) a) (from + 2 * n + 1) b) (suc n) ≡ pair a b ∷ pairsIn from table n
-unfolding pairsIn
-pairs-more from table n a b h =
-    let i : ℕ = from + 2 * n in
-    ap₂ (λ (p : Pair) (ps : List Pair). p ∷ ps)
-    (ap₂ pair
-    (getD-set-other (set table i a) (i + 1) i b 0 (λ e. omega (arith, e)) ∙ getD-set-same table i a 0 (omega arith))
-    (getD-set-same (set table i a) (i + 1) b 0 (omega (arith, length-set table i a))))
-    (pairs-kept from (set table i a) n (i + 1) b (omega arith) ∙ pairs-kept from table n i a (omega arith))
 
 -- the arguments from i on still to be put there, and all of them
 side-more : (xs ys : List ℕ) (i : ℕ) (w : List Pair) → i < length xs → i < length ys → lastFirst (drop (suc i) xs) (drop (suc i) ys) (pair (getD xs i 0) (getD ys i 0) ∷ w) ≡ lastFirst (drop i xs) (drop i ys) w

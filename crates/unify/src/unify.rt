@@ -1,14 +1,15 @@
 // Unification by a worklist of pairs.
-use crate::graph::Graph;
 use crate::meet::Met;
 use crate::meet::meet;
 use crate::pairs::Pairs;
 use base::id::Node;
+use graph::graph::Graph;
 ghost use mathlib.Core.Path.{_≡_};
 ghost use Prim.Native.Nat.{_<_, _≤_};
 ghost use lib.ListN.{length};
-ghost use Rattle.graph.specs.Pairs.{pairsEnd, leftWord, rightWord};
-ghost use Rattle.graph.specs.Unifies.{Ready, Takes, HoldsInner, Unifies};
+ghost use Rattle.graph.specs.Stack.{pairsEnd, leftWord, rightWord};
+ghost use Rattle.graph.specs.Inner.{HoldsInner};
+ghost use Rattle.unify.specs.Unifies.{Ready, Takes, Unifies};
 
 // The two are joined, or clash; and how many pairs were taken.
 pub enum Outcome {

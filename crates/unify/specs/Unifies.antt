@@ -18,21 +18,20 @@ use Rattle.theory.specs.Unification.Like.{own-root, vertex-old, vertex-new}
 use Rattle.theory.specs.Unification.Unify.{take-clashed, take-on, open-most}
 use Rattle.theory.specs.Unification.Join.{same-refl, join-joined, bind-joined}
 use Rattle.theory.specs.Unification.Pairs.{args-length}
 use Rattle.graph.specs.declared.graph.Graph.{Graph as Counts}
-use Rattle.graph.specs.declared.pairs.Pairs.{Pairs}
-use Rattle.graph.specs.declared.meet.Met.{Met}
-use Rattle.graph.specs.declared.meet.Met.the-variants.{On, Clash as Unlike}
-use Rattle.graph.specs.declared.unify.Outcome.{Outcome}
-use Rattle.graph.specs.declared.unify.Outcome.the-variants.{Joined, Clash}
+use Rattle.unify.specs.declared.pairs.Pairs.{Pairs}
+use Rattle.unify.specs.declared.meet.Met.{Met}
+use Rattle.unify.specs.declared.meet.Met.the-variants.{On, Clash as Unlike}
+use Rattle.unify.specs.declared.unify.Outcome.{Outcome}
+use Rattle.unify.specs.declared.unify.Outcome.the-variants.{Joined, Clash}
 use Rattle.graph.specs.Cells.{startIn, linkWord, linkIn, graphIn, length-graphIn, rowsEnd, Shows, SameRows, rows-then, rows-set, shows-rows, Unchanged, unchanged-same, unchanged-then, unchanged-later, unchanged-set}
 use Rattle.graph.specs.Links.{Holds, Found, link-of, found-here}
 use Rattle.graph.specs.Pushes.{cells-shown}
-use Rattle.graph.specs.Pairs.{pairsEnd, leftWord, rightWord, Topmost, pairsIn, length-pairsIn, pairs-same, PairsRoom, arity-of}
-use Rattle.graph.specs.Meets.{Rooted, Meets, meet-same, meet-left, meet-right, meet-rigid, meet-unlike, meet-alike}
-
--- arguments are nodes
-abbrev pub Inner : Graph → Type 0
-Inner g = (x : ℕ) → x < length g → Below (length g) (vertex g x .args)
+use Rattle.graph.specs.Nodes.{arity-of}
+use Rattle.graph.specs.Stack.{pairsEnd, leftWord, rightWord, pairsIn, length-pairsIn, pairs-same}
+use Rattle.graph.specs.Inner.{Inner, HoldsInner, many-nodes}
+use Rattle.unify.specs.Pairs.{Topmost, PairsRoom}
+use Rattle.unify.specs.Meets.{Rooted, Meets, meet-same, meet-left, meet-right, meet-rigid, meet-unlike, meet-alike}
 
 -- pairs of nodes
 abbrev pub Within : ℕ → List Pair → Type 0
@@ -102,9 +101,6 @@ pub record Taking (words table : List ℕ) (s : Counts) (top taken : ℕ) (g₀ 
   pub left : takePairs fuel graph (pairsIn (rowsEnd words) table top) taken ≡ unify g₀ x y
   pub enough : top + openCells graph ≤ fuel
   pub most : fuel + taken ≤ suc (s .used)
-
-pub many-nodes : (words table : List ℕ) (s : Counts) (g : Graph) → Shows words table s g → length g ≡ s .nodes
-many-nodes words table s g S = sym (S .like .long) ∙ length-graphIn words table (s .nodes)
 
 -- the first pair stands there
 pub taking-first : (words table : List ℕ) (s : Counts) (g : Graph) (x y : ℕ) → Shows words table s g → Inner g → x < s .nodes → y < s .nodes → leftWord words table 0 ≡ x → rightWord words table 0 ≡ y → Taking words table s 1 0 g x y
@@ -294,9 +290,6 @@ going-at words before table s top taken x y h G = let e : top ≡ suc (top - 1) 
 pub topmost-at : (words table : List ℕ) (p : Pairs) → 0 < p .top → Topmost words table p → (p .left .0 ≡ leftWord words table (p .top - 1)) × (p .right .0 ≡ rightWord words table (p .top - 1))
 topmost-at words table p h T = T (p .top - 1) (omega arith)
 
-abbrev pub HoldsInner : List ℕ → List ℕ → Counts → Type 0
-HoldsInner words table s = (g : Graph) × Shows words table s g × Inner g
-
 module _ (words before table : List ℕ) (s : Counts) (top taken x y : ℕ) (G : Going words before table s (suc top) taken x y) (H : HoldsInner words before s) where
   pub going-ready : Ready words table s top
   going-ready = (H .0, x, y, taken, G .state (H .0) (H .1) (H .2))
@@ -367,14 +360,3 @@ module _ (words table : List ℕ) (s : Counts) (x y : ℕ) (room : pairsEnd word
 
   pub clash-first : (table′ : List ℕ) (n : ℕ) → Unifies words firstPair table′ s x y (Clash n) → Unifies words table table′ s x y (Clash n)
   clash-first table′ n U = (λ g S I. U .0 g (shows-rows words table firstPair s g first-rows S) I, first-beyond table′ (U .1))
-
--- ---- a node more over nodes
-pub inner-more : (g : Graph) (v : Vertex) → v .link ≡ none → Inner g → Below (length g) (v .args) → Inner (g ++ (v ∷ []))
-inner-more g v bare I b x l =
-    let long : length (g ++ (v ∷ [])) ≡ suc (length g) = length-append g (v ∷ []) ∙ omega arith in
-    elim (decLt x (length g)) [
-      | yes h ↦ rw (vertex-old g v bare x h) (below-more (length g) (length (g ++ (v ∷ []))) (vertex g x .args) (omega arith) (I x h))
-      | no h ↦
-          let e : x ≡ length g = omega (arith, h) in
-          rw (e, vertex-new g v bare) (below-more (length g) (length (g ++ (v ∷ []))) (v .args) (omega arith) b)
-    ]

@@ -5,9 +5,9 @@ use mathlib.Core.List.{List}
 use Prim.Native.Nat.{ℕ, _+_, _*_, _-_}
 use native.Mathlib.Omega.{arith}
 use lib.ListN.{length, getD}
-use Rattle.graph.specs.Pairs.{leftWord, rightWord}
-use Rattle.graph.proofs.pairs.top_pair.Statement.{statement}
-use Rattle.graph.proofs.pairs.top_pair.Tie as tie
+use Rattle.graph.specs.Stack.{leftWord, rightWord}
+use Rattle.unify.proofs.pairs.top_pair.Statement.{statement}
+use Rattle.unify.proofs.pairs.top_pair.Tie as tie
 
 returns : tie.Need-returns
 returns c = (sym (c .if1 .taken), λ t e. absurd (omega (arith, e)))

@@ -1,13 +1,13 @@
 // Two roots meet.
-use crate::graph::Graph;
 use crate::pairs::Pairs;
 use crate::pairs::push_pairs;
 use crate::pairs::top_pair;
 use base::id::Node;
 use base::id::Pattern;
+use graph::graph::Graph;
 ghost use Rattle.graph.specs.Links.{Holds};
-ghost use Rattle.graph.specs.Pairs.{PairsRoom};
-ghost use Rattle.graph.specs.Meets.{Rooted, Meets};
+ghost use Rattle.unify.specs.Pairs.{PairsRoom};
+ghost use Rattle.unify.specs.Meets.{Rooted, Meets};
 
 // These pairs are left to be taken, or the two clash.
 pub enum Met {

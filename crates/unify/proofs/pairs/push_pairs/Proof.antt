@@ -4,10 +4,10 @@ use Prim.Native.Nat.{_-_}
 use native.Mathlib.Omega.{arith}
 use lib.ListN.{length-set}
 use mathlib.Core.Path.{refl, sym, subst, _∙_}
 use Rattle.graph.specs.Cells.{laid-rows}
-use Rattle.graph.specs.Pairs.{Piled, PairsOn, pile-none, pile-left, pile-right, pile-more, pile-all, pile-empty, pile-topmost}
-use Rattle.graph.proofs.pairs.push_pairs.Statement.{statement}
-use Rattle.graph.proofs.pairs.push_pairs.Tie as tie
+use Rattle.unify.specs.Pairs.{Piled, PairsOn, pile-none, pile-left, pile-right, pile-more, pile-all, pile-empty, pile-topmost}
+use Rattle.unify.proofs.pairs.push_pairs.Statement.{statement}
+use Rattle.unify.proofs.pairs.push_pairs.Tie as tie
 
 abbrev Inv-loop : tie.InvT-loop
 Inv-loop g cells table₀ top x y a b n rows left₀ right₀ i₀ table left right i = Piled cells table₀ g (x .0) (y .0) top n table (left .0) (right .0) i

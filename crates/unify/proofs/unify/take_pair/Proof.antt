@@ -1,9 +1,9 @@
 -- `take_pair` meets its contract.
 use borrow.Author.Needs.{needs}
 use native.Mathlib.Omega.{arith}
-use Rattle.graph.specs.Unifies.{pair-left, pair-right, both-held, left-root, right-root, turn-room, turn-says, found-as}
-use Rattle.graph.proofs.unify.take_pair.Statement.{statement}
-use Rattle.graph.proofs.unify.take_pair.Tie as tie
+use Rattle.unify.specs.Unifies.{pair-left, pair-right, both-held, left-root, right-root, turn-room, turn-says, found-as}
+use Rattle.unify.proofs.unify.take_pair.Statement.{statement}
+use Rattle.unify.proofs.unify.take_pair.Tie as tie
 
 find-requires : tie.Need-find-requires
 find-requires c κs = let p = c .before .before .before .pre in let R = p .0 in ((R .4 .graph, R .4 .shows), omega (arith, p .2, pair-left _ _ _ _ R))

@@ -2,11 +2,11 @@
 use borrow.Author.Needs.{needs}
 use native.Mathlib.Omega.{arith}
 use mathlib.Core.Path.{sym, _∙_}
 use Rattle.graph.specs.Cells.{unchanged-same, laid-rows}
 use Rattle.graph.specs.Joins.{head-variable, head-other}
-use Rattle.graph.specs.Meets.{meet-left, meet-right, meet-variable, meet-differ, meet-join, meets-same, meets-bound, meets-joined, apart-rows}
-use Rattle.graph.proofs.meet.meet.Statement.{statement}
-use Rattle.graph.proofs.meet.meet.Tie as tie
+use Rattle.unify.specs.Meets.{meet-left, meet-right, meet-variable, meet-differ, meet-join, meets-same, meets-bound, meets-joined, apart-rows}
+use Rattle.unify.proofs.meet.meet.Statement.{statement}
+use Rattle.unify.proofs.meet.meet.Tie as tie
 
 top-pair-requires : tie.Need-top-pair-requires
 top-pair-requires c κs = let p = c .before .before .before .before .before .before .pre in (omega (arith, p .3 .0), omega (arith, p .3 .1), p .0 .1 .laid .small)

@@ -4,11 +4,11 @@ use mathlib.Core.Path.{_≡_, refl, _∙_}
 use Prim.Native.Nat.{ℕ, _+_, _-_}
 use native.Mathlib.Omega.{arith}
 use lib.ListN.{length, length-set}
 use Rattle.graph.specs.Cells.{rowsEnd}
-use Rattle.graph.specs.Pairs.{Topmost}
-use Rattle.graph.specs.Unifies.{Going, first-long, first-held, first-topmost, topmost-at, going-first, joined-first, clash-first, going-at, going-ready, going-few, going-on, going-clash, going-done}
-use Rattle.graph.proofs.unify.unify.Statement.{statement}
-use Rattle.graph.proofs.unify.unify.Tie as tie
+use Rattle.unify.specs.Pairs.{Topmost}
+use Rattle.unify.specs.Unifies.{Going, first-long, first-held, first-topmost, topmost-at, going-first, joined-first, clash-first, going-at, going-ready, going-few, going-on, going-clash, going-done}
+use Rattle.unify.proofs.unify.unify.Statement.{statement}
+use Rattle.unify.proofs.unify.unify.Tie as tie
 
 abbrev Inv-loop : tie.InvT-loop
 Inv-loop g cells table₀ rows p₀ taken₀ table p taken = (length table ≡ length table₀) × ((x y : ℕ) → Going cells table₀ table₀ g 1 0 x y → Going cells table₀ table g (p .top) taken x y) × Topmost cells table p

@@ -9,13 +9,14 @@ use lib.Dec.{eqb}
 use Rattle.definition.specs.Test.{is, see}
 use Rattle.definition.specs.Store.{variableHead}
 use Rattle.definition.specs.Graph.{Graph, Pair, on, clashed, vertex, isFree, isVar, bind, join, lastFirst, meet}
 use Rattle.graph.specs.declared.graph.Graph.{Graph as Counts}
-use Rattle.graph.specs.declared.pairs.Pairs.{Pairs}
-use Rattle.graph.specs.declared.meet.Met.{Met}
-use Rattle.graph.specs.declared.meet.Met.the-variants.{On, Clash}
+use Rattle.unify.specs.declared.pairs.Pairs.{Pairs}
+use Rattle.unify.specs.declared.meet.Met.{Met}
+use Rattle.unify.specs.declared.meet.Met.the-variants.{On, Clash}
 use Rattle.graph.specs.Cells.{linkWord, rowsEnd, Laid, nodes-few, Shows, SameRows, shows-rows, Unchanged, unchanged-same, unchanged-then, unchanged-later}
 use Rattle.graph.specs.Joins.{Apart, Joins, Binds}
-use Rattle.graph.specs.Pairs.{pairsEnd, Topmost, topmost-same, pairsIn, pairs-same, PairsOn}
+use Rattle.graph.specs.Stack.{pairsEnd, pairsIn, pairs-same}
+use Rattle.unify.specs.Pairs.{Topmost, topmost-same, PairsOn}
 
 -- ---- what the definition says, test by test
 module _ (g : Graph) (x y : ℕ) (work : List Pair) where
@@ -88,8 +89,8 @@ apart-rows words table table′ s x y R L A =
     record {
       left = A .left;
       right = A .right;
-      free = R .rows (5 * x + 1) (omega (arith, A .left, L .fits)) ∙ A .free;
-      bare = R .rows (5 * y + 1) (omega (arith, A .right, L .fits)) ∙ A .bare;
+      free = R .rows (2 * x + 1) (omega (arith, A .left, L .fits)) ∙ A .free;
+      bare = R .rows (2 * y + 1) (omega (arith, A .right, L .fits)) ∙ A .bare;
       unlike = A .unlike;
     }
 

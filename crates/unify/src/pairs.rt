@@ -1,54 +1,18 @@
-// What unification asks of nodes, and the pairs that it still has to take.
-use crate::graph::Graph;
+// The pairs that unification still has to take.
 use base::id::Node;
-use base::id::Pattern;
+use graph::graph::Graph;
 ghost use mathlib.Core.Path.{_≡_};
 ghost use Prim.Native.Nat.{_+_, _*_, _≤_, _<_, min};
 ghost use lib.ListN.{length};
-ghost use Rattle.graph.specs.Cells.{startIn, rowsEnd, Laid};
+ghost use Rattle.graph.specs.Cells.{rowsEnd};
 ghost use Rattle.graph.specs.Links.{Holds};
-ghost use Rattle.graph.specs.Pairs.{ArityOf, ArgumentOf, FreeOf, Topmost, PairsRoom, PairsOn};
+ghost use Rattle.unify.specs.Pairs.{Topmost, PairsRoom, PairsOn};
 
 // So many pairs, and the nodes of the last one if there is one. It is on the stack too; here it need not be waited for.
 pub struct Pairs {
     pub top: usize,
     pub left: Node,
     pub right: Node,
-}
-
-impl Graph {
-    // How many arguments node `x` has.
-    pub fn arity(self, cells: &[u32], table: &[u32], x: Node) -> usize
-        requires { ⌜ Laid (now cells) (now table) self × (x .0 < self .nodes) ⌝ }
-        ensures { λ r. ⌜ ArityOf (now (cells .entry)) (now (table .entry)) self (x .0) r ⌝ }
-    {
-        let i = x.0 as usize;
-        let start = table[5 * i] as usize;
-        let end = table[5 * i + 5] as usize;
-        end - (start + 1)
-    }
-
-    // Its argument `i`.
-    pub fn argument(self, cells: &[u32], table: &[u32], x: Node, i: usize) -> Node
-        requires { ⌜ Laid (now cells) (now table) self × (x .0 < self .nodes) × (startIn (now table) (x .0) + 1 + i < startIn (now table) (x .0 + 1)) ⌝ }
-        ensures { λ r. ⌜ ArgumentOf (now (cells .entry)) (now (table .entry)) self (x .0) i (r .0) ⌝ }
-    {
-        let j = x.0 as usize;
-        let start = table[5 * j] as usize;
-        Node(cells[start + 1 + i])
-    }
-
-    // Whether it is a variable that may be bound.
-    pub fn is_free(self, cells: &[u32], table: &[u32], x: Node) -> bool
-        requires { ⌜ Laid (now cells) (now table) self × (x .0 < self .nodes) ⌝ }
-        ensures { λ r. ⌜ FreeOf (now (cells .entry)) (now (table .entry)) self (x .0) r ⌝ }
-    {
-        if self.head(cells, table, x) != Pattern::VAR {
-            return false;
-        }
-        let i = x.0 as usize;
-        table[5 * i + 4] == 0
-    }
 }
 
 // The lesser of two numbers.
