@@ -35,6 +35,7 @@ bench: tools dock
 	@rt staticlib unifier > target/unifier.log 2>&1 || { cat target/unifier.log; exit 1; }
 	@rt staticlib parser > target/parser.log 2>&1 || { cat target/parser.log; exit 1; }
 	@rt staticlib walker > target/walker.log 2>&1 || { cat target/walker.log; exit 1; }
+	@rt staticlib single > target/single.log 2>&1 || { cat target/single.log; exit 1; }
 	@HORN_SRC=$(realpath $(HORN)) RATTLE_LIB=$(CURDIR)/target/staticlib $(CARGO) build --offline --locked --release --quiet --manifest-path tools/Cargo.toml -p bench --features original
 	@$(TOOLS)/bench intern
 	@$(TOOLS)/bench unify --times

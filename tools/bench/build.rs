@@ -33,11 +33,12 @@ fn named(variable: &str, what: &str, files: &[&str]) -> Vec<PathBuf> {
 fn main() {
     let archives = named(
         "RATTLE_LIB",
-        "the library's archives (it has libdock.a, libinterner.a, libparser.a, libunifier.a and libwalker.a)",
+        "the library's archives (it has libdock.a, libinterner.a, libparser.a, libsingle.a, libunifier.a and libwalker.a)",
         &[
             "libdock.a",
             "libinterner.a",
             "libparser.a",
+            "libsingle.a",
             "libunifier.a",
             "libwalker.a",
         ],
@@ -45,7 +46,7 @@ fn main() {
     if let Some(folder) = archives.first().and_then(|archive| archive.parent()) {
         println!("cargo::rustc-link-search=native={}", folder.display());
     }
-    for archive in ["dock", "interner", "parser", "unifier", "walker"] {
+    for archive in ["dock", "interner", "parser", "single", "unifier", "walker"] {
         println!("cargo::rustc-link-lib=static={archive}");
     }
 

@@ -26,10 +26,10 @@ use Rattle.graph.specs.declared.graph.Graph.{Graph as Counts}
 use Rattle.premise.specs.Layout.{copiesAt}
 use Rattle.premise.specs.Joins.{copiesIn}
 use Rattle.premise.specs.declared.layout.Layout.{Layout}
-use Rattle.resolve.specs.Words.{Ready, Framed}
-use Rattle.resolve.specs.Moved.{framed-then, holding-fewer}
+use Rattle.root.specs.Words.{Ready, Framed}
+use Rattle.root.specs.Moved.{framed-then, holding-fewer}
 use Rattle.resolve.specs.Stacks.{Answers}
-use Rattle.resolve.specs.declared.root.Resolved.the-variants as read
+use Rattle.root.specs.declared.root.Resolved.the-variants as read
 use Rattle.rows.specs.Standing.{liftedOf}
 use Rattle.conclude.specs.declared.entries.Entries.the-variants as entries
 use Rattle.conclude.specs.declared.top.Back.{Back}

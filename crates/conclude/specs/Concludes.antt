@@ -47,8 +47,8 @@ use Rattle.premise.specs.Layout.{placeOf, tableIn, copiesAt, Laid}
 use Rattle.premise.specs.Joins.{copiesIn}
 use Rattle.premise.specs.Meets.{instantiate-longer}
 use Rattle.premise.specs.declared.layout.Layout.{Layout}
-use Rattle.resolve.specs.Words.{valuesAt, numbersAt, wordOf, Framed}
-use Rattle.resolve.specs.Kept.{lifts-on}
+use Rattle.root.specs.Words.{valuesAt, numbersAt, wordOf, Framed}
+use Rattle.root.specs.Kept.{lifts-on}
 use Rattle.rows.specs.Standing.{liftedOf}
 use Rattle.kept.specs.Circles.{Instance, instance}
 use Rattle.kept.specs.FewArgs.{FewArgs, few-instance}

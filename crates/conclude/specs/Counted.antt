@@ -28,8 +28,8 @@ use Rattle.graph.specs.declared.graph.Graph.{Graph as Counts}
 use Rattle.premise.specs.Layout.{copiesAt}
 use Rattle.premise.specs.Joins.{copiesIn}
 use Rattle.premise.specs.declared.layout.Layout.{Layout}
-use Rattle.resolve.specs.Words.{patternsAt, numbersAt, tableEnd, tableIn, marksIn, wordOf, Framed}
-use Rattle.resolve.specs.Moved.{table-at, table-long, nodes-most, numbers-most, framed-then, framed-moves, holding-moves}
+use Rattle.root.specs.Words.{patternsAt, numbersAt, tableEnd, tableIn, marksIn, wordOf, Framed}
+use Rattle.root.specs.Moved.{table-at, table-long, nodes-most, numbers-most, framed-then, framed-moves, holding-moves}
 use Rattle.rows.specs.Standing.{liftedOf}
 use Rattle.kept.specs.Resolves.{resolve-length}
 use Rattle.kept.specs.Numbers.{number-any}

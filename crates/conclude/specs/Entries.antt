@@ -30,12 +30,12 @@ use Rattle.graph.specs.declared.graph.Graph.{Graph as Counts}
 use Rattle.premise.specs.Layout.{copiesAt, copiesEnd}
 use Rattle.premise.specs.Joins.{copiesIn}
 use Rattle.premise.specs.declared.layout.Layout.{Layout}
-use Rattle.resolve.specs.Words.{Holding, Ready, Framed}
-use Rattle.resolve.specs.Moved.{framed-none, framed-then}
-use Rattle.resolve.specs.Kept.{Indexed}
+use Rattle.root.specs.Words.{Holding, Ready, Framed}
+use Rattle.root.specs.Moved.{framed-none, framed-then}
+use Rattle.root.specs.Kept.{Indexed}
 use Rattle.resolve.specs.Stacks.{Answers}
-use Rattle.resolve.specs.declared.words.Table.{Table}
-use Rattle.resolve.specs.declared.root.Resolved.the-variants as read
+use Rattle.root.specs.declared.words.Table.{Table}
+use Rattle.root.specs.declared.root.Resolved.the-variants as read
 use Rattle.rows.specs.Standing.{liftedOf}
 use Rattle.kept.specs.Resolves.{resolve-nil, resolve-append, resolve-snoc}
 use Rattle.kept.specs.Numbers.{count-snoc}

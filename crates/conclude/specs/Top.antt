@@ -31,8 +31,8 @@ use Rattle.graph.specs.Cells.{Shows, nodes-few, shows-rows}
 use Rattle.premise.specs.Layout.{tableIn, Laid}
 use Rattle.premise.specs.Joins.{copiesIn, rows-outside}
 use Rattle.premise.specs.declared.layout.Layout.{Layout}
-use Rattle.resolve.specs.Words.{valuesAt, tableEnd, wordOf, Lies, Framed}
-use Rattle.resolve.specs.Kept.{lifts-on}
+use Rattle.root.specs.Words.{valuesAt, tableEnd, wordOf, Lies, Framed}
+use Rattle.root.specs.Kept.{lifts-on}
 use Rattle.resolve.specs.Stacks.{Clears}
 use Rattle.rows.specs.Standing.{liftedOf}
 use Rattle.kept.specs.FewArgs.{FewArgs}

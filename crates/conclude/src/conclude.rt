@@ -10,7 +10,7 @@ use instantiate::terms::Place;
 use instantiate::terms::instantiate;
 use pack::rule::pass_terms;
 use premise::layout::Layout;
-use resolve::words::Table;
+use root::words::Table;
 use store::nodes::Store;
 ghost use Rattle.conclude.specs.Top.{Topping};
 ghost use Rattle.conclude.specs.Counted.{TopReads};

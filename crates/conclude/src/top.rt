@@ -8,14 +8,14 @@ use catalog::whole::Catalog;
 use graph::graph::Graph;
 use lift::walk::Lifted;
 use premise::layout::Layout;
-use resolve::root::Resolved;
 use resolve::walk::clear;
 use resolve::walk::resolve;
-use resolve::words::Table;
+use root::root::Resolved;
+use root::words::Table;
 use store::nodes::Store;
 ghost use Prim.Native.Nat.{_+_, _≤_};
 ghost use lib.ListN.{length};
-ghost use Rattle.resolve.specs.Words.{tableEnd};
+ghost use Rattle.root.specs.Words.{tableEnd};
 ghost use Rattle.conclude.specs.Top.{Prepares, Topping};
 ghost use Rattle.conclude.specs.Back.{BackReads};
 

@@ -30,7 +30,7 @@ use Rattle.store.specs.Stored.{Stored, nodes}
 use Rattle.store.specs.Recall.{recall, length-recall, Remembers}
 use Rattle.store.specs.declared.nodes.Store.{Store}
 use Rattle.store.specs.declared.memo.Memo.{Memo}
-use Rattle.graph.specs.Cells.{Shows}
+use Rattle.graph.specs.Cells.{Shows, cells-more}
 use Rattle.graph.specs.Inner.{inner-more}
 use Rattle.copy.specs.declared.walk.Copying.{Copying}
 use Rattle.copy.specs.Held.{indexIn, tableIn, rowsAt, rowsIn, Apart, Room, Patterns, marksIn, valueIn, orZero, copyIn, wordOf, Holding, Beside}
@@ -108,12 +108,6 @@ noted-word (some k) x j vs = elim (see (eqb k j)) [
   | is true e ↦ let q : j ≡ k = sym (eqb-true k j e) in rw (e, noted) (ap wordOf (sym (ap (λ (i : ℕ). valueOf i (pairing k x ∷ vs)) q ∙ valueOf-new k x vs)))
   | is false e ↦ rw (e, noted) (ap wordOf (sym (valueOf-old k x vs j (λ q. eqb-false k j e (sym q)))))
 ]
-
--- the cells of a node more
-pub cells-more : (g : Graph) (v : Vertex) → cells (g ++ (v ∷ [])) ≡ cells g + suc (length (v .args))
-unfolding cells
-cells-more [] v = omega arith
-cells-more (w ∷ g) v = omega (arith, cells-more g v)
 
 module _ (work words cells₀ flex : List ℕ) (l : Copying) (st : Store) (memo : Memo) (g : Counts) (c : Copy) (H : Holding work words cells₀ flex l st memo g c) where
   -- what the memo says a node was copied to

@@ -24,7 +24,8 @@ use Rattle.copy.specs.declared.walk.Copying.{Copying}
 use Rattle.copy.specs.declared.walk.Turn.the-variants as turns
 use Rattle.copy.specs.Held.{tableIn, Patterns, marksIn, Holding, framesIn, Going, Ready, Beside}
 use Rattle.copy.specs.Steps.{turnOf, leftOf, Advances, Runs}
-use Rattle.copy.specs.Grown.{copied-is, cells-more}
+use Rattle.graph.specs.Cells.{cells-more}
+use Rattle.copy.specs.Grown.{copied-is}
 use Rattle.copy.specs.Turns.{length-frames}
 use Rattle.copy.specs.Ways.{beside-none, beside-then}
 use Rattle.copy.specs.Measure.{took, unfinished-same, most, turn-less, left-grows}

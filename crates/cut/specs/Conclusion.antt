@@ -20,7 +20,7 @@ use Rattle.pack.specs.Held.{OfHeld}
 use Rattle.lift.specs.Lifts.{Lifts, Apart}
 use Rattle.lift.specs.Runs.{written-again, words-grow}
 use Rattle.lift.specs.declared.walk.Lifted.{Lifted}
-use Rattle.resolve.specs.Kept.{Interns}
+use Rattle.root.specs.Kept.{Interns}
 use Rattle.cut.specs.Fresh.{variablesOf, Freshened, Unfreshened, apart-both}
 
 -- a predicate over fresh variables, interned

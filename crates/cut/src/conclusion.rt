@@ -4,7 +4,7 @@ use catalog::whole::Catalog;
 use lift::walk::Lifted;
 use pack::symbol::symbol_arity;
 use pack::symbol::symbol_input;
-use resolve::words::intern_key;
+use root::words::intern_key;
 use store::nodes::Interned;
 use store::nodes::Store;
 ghost use mathlib.Core.List.{[], _∷_};
@@ -13,7 +13,7 @@ ghost use lib.ListN.{length};
 ghost use Rattle.definition.specs.Store.{variableHead};
 ghost use Rattle.catalog.specs.Whole.{recordsOf};
 ghost use Rattle.lift.specs.Lifts.{Lifts};
-ghost use Rattle.resolve.specs.Kept.{Indexed, Interns};
+ghost use Rattle.root.specs.Kept.{Indexed, Interns};
 ghost use Rattle.cut.specs.Fresh.{Starts, Freshens};
 ghost use Rattle.cut.specs.Conclusion.{Concludes};
 

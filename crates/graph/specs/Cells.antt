@@ -107,6 +107,12 @@ nodes-few words table s L = let t = start-before words table s L (s .nodes) 0 (o
 pub room : (words table : List ℕ) (s : Counts) → Laid words table s → 2 * s .nodes + 2 ≤ length table
 room words table s L = omega (arith, nodes-few words table s L, L .fits, L .wide)
 
+-- a node more takes a cell for its head and one for each argument
+pub cells-more : (g : Graph) (v : Vertex) → cells (g ++ (v ∷ [])) ≡ cells g + suc (length (v .args))
+unfolding cells
+cells-more [] v = omega arith
+cells-more (w ∷ g) v = omega (arith, cells-more g v)
+
 -- as many cells as are used
 pub cells-used : (words table : List ℕ) (s : Counts) → Laid words table s → (n : ℕ) → n ≤ s .nodes → cells (graphIn words table n) ≡ startIn table n
 unfolding graphIn cells vertexIn
@@ -116,10 +122,6 @@ cells-used words table s L (suc n) l =
     let t = start-before words table s L (s .nodes - suc n) (suc n) (omega arith) in
     let a = length-part (startIn table n + 1) (startIn table (suc n) - (startIn table n + 1)) words (omega (arith, L .fits)) in
     cells-more (graphIn words table n) (vertexIn words table n) ∙ ap (λ (k : ℕ). k + suc (length (vertexIn words table n .args))) (cells-used words table s L n (omega arith)) ∙ omega (arith, a)
-  where
-    cells-more : (g : Graph) (v : Vertex) → cells (g ++ (v ∷ [])) ≡ cells g + suc (length (v .args))
-    cells-more [] v = omega arith
-    cells-more (w ∷ g) v = omega (arith, cells-more g v)
 
 -- ---- the words up to here are as they were
 module _ (words table words′ table′ : List ℕ) (s : Counts) (L : Laid words table s) (long-words : length words′ ≡ length words)

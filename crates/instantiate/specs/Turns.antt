@@ -21,7 +21,7 @@ use Rattle.catalog.specs.declared.whole.Catalog.{Catalog}
 use Rattle.pack.specs.Reads.{ruleWords}
 use Rattle.graph.specs.declared.graph.Graph.{Graph as Counts}
 use Rattle.graph.specs.declared.graph.Pushed.the-variants.{At, Short}
-use Rattle.graph.specs.Cells.{rowsEnd, Shows, Unchanged}
+use Rattle.graph.specs.Cells.{rowsEnd, Shows, Unchanged, cells-more}
 use Rattle.graph.specs.Pushes.{Pushes}
 use Rattle.graph.specs.Inner.{Inner, inner-more}
 use Rattle.instantiate.specs.declared.terms.Place.{Place}
@@ -58,12 +58,6 @@ module _ (work cells table′ : List ℕ) (c : Catalog) (l : Place) (R : Room wo
       | no b ↦ put-behind (l .at) (l .end - l .at) work fits table′ many i (omega (arith, b, R .fits))
     ];
   }
-
--- a cell more for a node, and one for each argument
-pub cells-more : (g : Graph) (v : Vertex) → cellsOf (g ++ (v ∷ [])) ≡ cellsOf g + suc (length (v .args))
-unfolding cellsOf
-cells-more [] v = omega arith
-cells-more (w ∷ g) v = omega (arith, cells-more g v)
 
 -- a word put in front of the stack's top
 on-top : (stack : List ℕ) (at v : ℕ) → at < length stack → drop at (set stack at v) ≡ v ∷ drop (suc at) stack

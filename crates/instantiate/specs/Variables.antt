@@ -25,7 +25,7 @@ use Rattle.instantiate.specs.declared.terms.Place.{Place}
 use Rattle.instantiate.specs.declared.variables.Opened.{Opened}
 use Rattle.instantiate.specs.declared.variables.Opened.the-variants.{On, Short as Full}
 use Rattle.instantiate.specs.Building.{tableIn, Room, Outside, outside-none, outside-then, outside-same}
-use Rattle.instantiate.specs.Turns.{lent-table, lent-outside, cells-more}
+use Rattle.instantiate.specs.Turns.{lent-table, lent-outside}
 
 -- variables of these sorts, neither flexible nor rigid
 abbrev pub variablesOf : List ℕ → Graph

@@ -11,13 +11,12 @@ use Rattle.definition.specs.Graph.{Graph, applied, push, cells as cellsOf}
 use Rattle.definition.specs.Analysis.{GrownAll, instantiate, instantiateAll}
 use Rattle.definition.specs.Laws.Prefix.{termWords, termsWords}
 use Rattle.graph.specs.declared.graph.Graph.{Graph as Counts}
-use Rattle.graph.specs.Cells.{Shows}
+use Rattle.graph.specs.Cells.{Shows, cells-more}
 use Rattle.graph.specs.Inner.{Inner}
 use Rattle.instantiate.specs.declared.terms.Place.{Place}
 use Rattle.definition.specs.Laws.Suffix.{after, Ahead, a-variable, a-symbol, after-words, after-ahead, all-words, no-words}
 use Rattle.instantiate.specs.Suffix.{variable-nodes, symbol-nodes}
 use Rattle.instantiate.specs.Building.{Spells, tableIn, nodesOf, Built}
-use Rattle.instantiate.specs.Turns.{cells-more}
 
 module _ (P : Pack) (r vars from to : ℕ) (t : Term) (Sp : Spells P r vars from to t) where
   -- behind the last word there is no term

@@ -10,7 +10,7 @@ use Rattle.base.specs.Part.{part, put, part-at, part-same, part-put, length-par
 use Rattle.base.specs.Outside.{Outside, outside-put, outside-then, outside-wider, part-ahead, part-behind}
 use Rattle.store.specs.declared.memo.Memo.{Memo}
 use Rattle.graph.specs.declared.graph.Graph.{Graph as Counts}
-use Rattle.graph.specs.declared.unify.Outcome.the-variants.{Joined, Clash as Unlike}
+use Rattle.unify.specs.declared.unify.Outcome.the-variants.{Joined, Clash as Unlike}
 use Rattle.graph.specs.Cells.{rowsEnd, nodes-few, Shows, SameRows, shows-rows, Unchanged}
 use Rattle.graph.specs.Stack.{pairsEnd}
 use Rattle.graph.specs.Inner.{Inner, HoldsInner}

@@ -32,12 +32,12 @@ use Rattle.lift.specs.declared.walk.Lifted.{Lifted}
 use Rattle.graph.specs.declared.graph.Graph.{Graph as Counts}
 use Rattle.graph.specs.Cells.{rowsEnd, Shows, nodes-few, shows-rows}
 use Rattle.graph.specs.Pushes.{cells-shown}
-use Rattle.resolve.specs.declared.words.Table.{Table}
-use Rattle.resolve.specs.declared.root.Resolved.{Resolved}
-use Rattle.resolve.specs.declared.root.Resolved.the-variants as read
-use Rattle.resolve.specs.Words.{valuesAt, patternsAt, numbersAt, tableEnd, tableIn, wordOf, Grounded, Lies, Holding, Ready}
-use Rattle.resolve.specs.Kept.{lifts-on}
-use Rattle.resolve.specs.Moved.{table-at, table-long, numbers-most}
+use Rattle.root.specs.declared.words.Table.{Table}
+use Rattle.root.specs.declared.root.Resolved.{Resolved}
+use Rattle.root.specs.declared.root.Resolved.the-variants as read
+use Rattle.root.specs.Words.{valuesAt, patternsAt, numbersAt, tableEnd, tableIn, wordOf, Grounded, Lies, Holding, Ready}
+use Rattle.root.specs.Kept.{lifts-on}
+use Rattle.root.specs.Moved.{table-at, table-long, numbers-most}
 use Rattle.resolve.specs.Stacks.{Clears, Answers}
 use Rattle.readback.specs.declared.answer.Walk.{Walk}
 use Rattle.readback.specs.declared.answer.Walk.the-variants.{Done, Refused}

@@ -5,14 +5,14 @@ use base::zero::zero_words;
 use catalog::whole::Catalog;
 use graph::graph::Graph;
 use lift::walk::Lifted;
-use resolve::root::Resolved;
 use resolve::walk::clear;
 use resolve::walk::resolve;
-use resolve::words::Table;
+use root::root::Resolved;
+use root::words::Table;
 use store::nodes::Store;
 ghost use Prim.Native.Nat.{_+_, _≤_, _<_};
 ghost use lib.ListN.{length};
-ghost use Rattle.resolve.specs.Words.{tableEnd};
+ghost use Rattle.root.specs.Words.{tableEnd};
 ghost use Rattle.readback.specs.Back.{Standing, Blank, Backs};
 
 // No node has a ground value.

@@ -2,7 +2,7 @@
 use base::id::Pattern;
 use catalog::whole::Catalog;
 use lift::walk::Lifted;
-use resolve::words::intern_key;
+use root::words::intern_key;
 use store::nodes::Interned;
 use store::nodes::Store;
 ghost use mathlib.Core.Path.{_≡_};

@@ -21,11 +21,11 @@ use Rattle.lift.specs.Memo.{frames-same}
 use Rattle.graph.specs.declared.graph.Graph.{Graph as Counts}
 use Rattle.graph.specs.Cells.{rowsEnd, nodes-few}
 use Rattle.graph.specs.Links.{Found}
-use Rattle.resolve.specs.declared.words.Table.{Table}
-use Rattle.resolve.specs.Words.{patternsAt, tableEnd, tableIn, marksIn, Moves}
-use Rattle.resolve.specs.Moved.{table-at, table-set, table-long, moves-then, moves-set, found-moves}
-use Rattle.resolve.specs.Asked.{Asking, Rooted, finds-moves, finds-word}
-use Rattle.resolve.specs.Given.{lies-same}
+use Rattle.root.specs.declared.words.Table.{Table}
+use Rattle.root.specs.Words.{patternsAt, tableEnd, tableIn, marksIn, Moves}
+use Rattle.root.specs.Moved.{table-at, table-set, table-long, moves-then, moves-set, found-moves}
+use Rattle.root.specs.Asked.{Asking, Rooted, finds-moves, finds-word}
+use Rattle.root.specs.Given.{lies-same}
 use Rattle.resolve.specs.Stacks.{framesOf, Entering, Enters, Begins, Clears}
 
 -- ---- a frame above the top

@@ -1,4 +1,2 @@
-// Graph terms read back as patterns of the interned store.
-pub mod root;
+// A graph node read back as a pattern.
 pub mod walk;
-pub mod words;

@@ -30,7 +30,7 @@ use Rattle.keys.specs.declared.classes.Keying.{Keying}
 use Rattle.keys.specs.declared.classes.Counts.{Counts}
 use Rattle.premise.specs.Layout.{indexIn, memoIn, Laid}
 use Rattle.premise.specs.declared.layout.Layout.{Layout}
-use Rattle.resolve.specs.Kept.{lifts-on}
+use Rattle.root.specs.Kept.{lifts-on}
 use Rattle.rows.specs.Rows.{RowsIn, rows-on}
 
 -- where lifting has its words

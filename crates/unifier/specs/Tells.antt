@@ -15,7 +15,7 @@ use Rattle.definition.specs.Answer.{padded, padded-none}
 use Rattle.base.specs.Part.{put, put-none, put-more}
 use Rattle.theory.specs.Unification.Circle.{length-upTo}
 use Rattle.graph.specs.declared.graph.Graph.{Graph as Counts}
-use Rattle.graph.specs.declared.unify.Outcome.the-variants.{Joined, Clash}
+use Rattle.unify.specs.declared.unify.Outcome.the-variants.{Joined, Clash}
 use Rattle.graph.specs.Cells.{Shows, nodes-few}
 use Rattle.graph.specs.Links.{Found}
 use Rattle.graph.specs.Inner.{Inner, many-nodes}

@@ -17,7 +17,7 @@ use Rattle.definition.specs.Graph.{Vertex, Graph, variableVertex, applied, push
 use Rattle.base.specs.declared.id.Node.{Node}
 use Rattle.graph.specs.declared.graph.Graph.{Graph as Counts}
 use Rattle.graph.specs.declared.graph.Pushed.the-variants.{At, Short}
-use Rattle.graph.specs.Cells.{markIn, Shows}
+use Rattle.graph.specs.Cells.{markIn, Shows, cells-more}
 use Rattle.graph.specs.Pushes.{Pushes, cells-shown}
 use Rattle.graph.specs.Inner.{Inner, inner-more, many-nodes}
 use Rattle.unifier.specs.declared.Turn.{Turn}
@@ -97,12 +97,6 @@ module _ (k room : ℕ) (g : Graph) where
   unfolding readNodes push
   read-next [] l e h = absurd (omega arith)
   read-next (w ∷ ws) l e h = rw (e, readNodes, le-leb _ _ h)
-
--- a node more takes a cell for its head and one for each argument
-cells-more : (g : Graph) (v : Vertex) → cellsOf (g ++ (v ∷ [])) ≡ cellsOf g + suc (length (v .args))
-unfolding cellsOf
-cells-more [] v = omega arith
-cells-more (w ∷ g) v = omega (arith, cells-more g v)
 
 -- ---- the words ahead
 module _ (terms : List ℕ) (at : ℕ) where

@@ -30,9 +30,9 @@ use Rattle.graph.specs.Pushes.{cells-shown}
 use Rattle.graph.specs.Inner.{many-nodes}
 use Rattle.copy.specs.declared.walk.Copying.{Copying}
 use Rattle.copy.specs.Held.{marksIn, Patterns}
-use Rattle.resolve.specs.declared.words.Table.{Table}
-use Rattle.resolve.specs.Words.{tableEnd, tableIn}
-use Rattle.resolve.specs.Kept.{lifts-on}
+use Rattle.root.specs.declared.words.Table.{Table}
+use Rattle.root.specs.Words.{tableEnd, tableIn}
+use Rattle.root.specs.Kept.{lifts-on}
 use Rattle.readback.specs.declared.answer.Walk.{Walk}
 use Rattle.readback.specs.declared.answer.Walk.the-variants.{Done, Refused}
 use Rattle.walker.specs.declared.copies.Times.the-variants.{Made, Short}

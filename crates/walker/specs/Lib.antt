@@ -1,9 +1,5 @@
--- Copies of patterns read back, and classes of single steps: what the calls come to, and the laws of their parts.
-pub mod Single
-pub mod Conclusions
-pub mod Classes
+-- Copies of patterns read back: what the call comes to, and the laws of its parts.
 pub mod Plain
 pub mod Copies
 pub mod Times
 pub mod CopyCalls
-pub mod Made

@@ -28,7 +28,7 @@ use Rattle.theory.specs.Walks.WalkOnce.{once-induct}
 use Rattle.theory.specs.Walks.Memo.{has-value}
 use Rattle.theory.specs.Walks.Levels.{Inner}
 use Rattle.theory.specs.Walks.CopyWalk.{noCopy, isCopied, copyAt, copy-made, copy-others, copy-known, copy-walk}
-use Rattle.instantiate.specs.Turns.{cells-more}
+use Rattle.graph.specs.Cells.{cells-more}
 use Rattle.copy.specs.Held.{Patterns}
 
 -- nothing is joined, each node rests on few earlier ones

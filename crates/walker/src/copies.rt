@@ -20,7 +20,7 @@ use readback::list::read_list;
 use readback::place::lifting;
 use readback::place::open_store;
 use reader::parsed::tables;
-use resolve::words::Table;
+use root::words::Table;
 use store::memo::Memo;
 use store::nodes::Store;
 ghost use mathlib.Core.Path.{_≡_};

@@ -1,3 +1,2 @@
-// Copies a pattern and reads the copy back, and makes the class of a step without premises, for the host's tests and benchmark.
+// Copies a pattern and reads the copy back, for the host's tests and benchmark.
 pub mod copies;
-pub mod single;

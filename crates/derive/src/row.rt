@@ -1,0 +1,52 @@
+// The row of a rule's class: for each numbered variable whether it is flexible.
+use crate::flex::flex_mark;
+use base::id::Node;
+use graph::graph::Graph;
+use keys::classes::Keying;
+use keys::classes::class_count;
+use premise::layout::Layout;
+use rows::row::begin_row;
+ghost use Rattle.derive.specs.Marks.{Marking, Marked, Writing, Writes};
+
+// The marks of the `n` numbered variables, from `at` on.
+fn put_flexes(
+    work: &[u32],
+    class: &mut [u32],
+    cells: &[u32],
+    l: Layout,
+    g: Graph,
+    at: usize,
+    n: usize,
+)
+    requires { ⌜ Marking (now work) (now class) (now cells) l g at n ⌝ }
+    ensures { λ _. ⌜ Marked (now (work .entry)) (now (class .entry)) (now (class .exit)) (now (cells .entry)) l g at n n ⌝ }
+{
+    let numbers = l.graph + (10 * cells.len() + 7);
+    let mut j: usize = 0;
+    while j < n {
+        let x = Node(work[numbers + j]);
+        class[at + j] = flex_mark(work, cells, l, g, x);
+        j += 1;
+    }
+}
+
+// The row of class `i`, with this conclusion and the `n` numbered variables, at `fill`.
+pub fn write_row(
+    work: &mut [u32],
+    class: &mut [u32],
+    cells: &[u32],
+    k: Keying,
+    l: Layout,
+    g: Graph,
+    fill: usize,
+    i: usize,
+    conclusion: u32,
+    n: usize,
+)
+    requires { ⌜ Writing (now work) (now class) (now cells) k l g fill i n ⌝ }
+    ensures { λ _. ⌜ Writes (now (work .entry)) (now (class .entry)) (now (work .exit)) (now (class .exit)) (now (cells .entry)) k l g fill i conclusion n ⌝ }
+{
+    let count = class_count(work, k, i);
+    begin_row(work, class, l, fill, i, conclusion, count, n);
+    put_flexes(work, class, cells, l, g, fill + 3, n);
+}

@@ -1,0 +1,3 @@
+// One root of a graph read back as a pattern, behind its arguments.
+pub mod root;
+pub mod words;

@@ -1,0 +1,31 @@
+-- `walk_single` meets its contract.
+use Rattle.readback.specs.Walks.{opened-read, opened-refused}
+use Rattle.readback.specs.Places.{opens}
+use borrow.Author.Needs.{needs}
+use Rattle.single.proofs.single.walk_single.Statement.{statement}
+use Rattle.single.proofs.single.walk_single.Tie as tie
+
+class-of-step-requires : tie.Need-class-of-step-requires
+class-of-step-requires c κs = let o = rw (c .before .before .before .enum-told .given .1) at (c .before .before .before .before .before .before .before .open-pack .ensures) in opens _ _ _ _ _ (c .before .before .before .before .before .before .before .open-pack .kept .1 .1 .0) (o .0) (o .1) (o .2) (o .3)
+
+returns : tie.Need-returns
+returns c = let o = rw (c .before .before .before .before .before .before .before .before .before .before .enum-told .given .1) at (c .before .before .before .before .before .before .before .before .before .before .before .before .before .before .open-pack .ensures) in opened-read _ _ (c .before .before .before .before .before .before .class-of-step .last .1 .1 .0) _ (o .1) (c .before .before .before .before .before .before .class-of-step .result) (o .0) (o .2) (c .before .before .before .before .before .before .class-of-step .ensures (o .1) (o .2) (o .3))
+
+returns-2 : tie.Need-returns-2
+returns-2 c = let o = rw (c .before .before .r .given .1) at (c .before .before .before .before .before .before .open-pack .ensures) in opened-refused _ _ (c .before .before .before .before .before .before .before .before .before .before .before .before .args .patterns .now) _ _ _ o (c .outcome-answer .ensures)
+
+pub walk-single-spec : {M : Type 1} → statement M
+walk-single-spec =
+    tie.close
+    (tie.spec
+    (λ c κs. search needs)
+    (λ c. search needs)
+    class-of-step-requires
+    (λ c. search needs)
+    (λ c κs. search needs)
+    (λ c. search needs)
+    (λ c. search needs)
+    (λ c. search needs)
+    returns
+    (λ c. search needs)
+    returns-2)
