@@ -65,10 +65,10 @@ bench: the library beside the Rust original
   bench unify             unify written pairs of terms and drawn ones in the library;
                           check what comes back beside a plain unifier, and beside the
                           original where it is in the build
-  bench unify --times     time the unification of generated terms, of up to 100,000
+  bench unify --times     time the unification of generated terms, of up to 400,000
                           levels, in the library and in the original
   bench unify --times --quick
-                          up to 1,000 levels and fewer rounds, for tests
+                          up to 4,000 levels and fewer rounds, for tests
   bench walk FOLDER       copy written patterns and drawn ones and read them back, and
                           make the class of each recorded step of FOLDER whose rule has
                           no premises, in the library; check what comes back beside a
