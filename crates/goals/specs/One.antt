@@ -18,6 +18,7 @@ use Rattle.definition.specs.Classes.{noClass, Built}
 use Rattle.definition.specs.Run.{outcome}
 use Rattle.definition.specs.Goals.{Root, instanceOf, testGoal}
 use Rattle.definition.specs.declared.Refusal.the-variants.{Goal as Unmet, Instance as Unlike}
+use Rattle.base.specs.Outside.{Outside, outside-none}
 use Rattle.catalog.specs.Whole.{recordsOf}
 use Rattle.catalog.specs.declared.whole.Catalog.{Catalog}
 use Rattle.catalog.specs.declared.region.Sought.{Sought}
@@ -30,7 +31,6 @@ use Rattle.store.specs.declared.memo.Memo.{Memo}
 use Rattle.store.specs.declared.nodes.Store.{Store}
 use Rattle.keys.specs.declared.classes.Keying.{Keying}
 use Rattle.premise.specs.declared.layout.Layout.{Layout}
-use Rattle.instance.specs.Tables.{Outside, outside-none}
 use Rattle.instance.specs.Held.{valueAt, Given, Kept}
 use Rattle.instance.specs.Matches.{Matches}
 use Rattle.instance.specs.declared.tables.Instance.{Instance}
