@@ -9,6 +9,7 @@ use Rattle.definition.specs.Pack.{Goal, Pack}
 use Rattle.definition.specs.Keys.{firstOf, keyed as keysOf}
 use Rattle.definition.specs.Classes.{noClass, Built}
 use Rattle.base.specs.Outside.{Outside}
+use Rattle.base.specs.Upto.{Upto}
 use Rattle.catalog.specs.Whole.{recordsOf}
 use Rattle.catalog.specs.declared.whole.Catalog.{Catalog}
 use Rattle.pack.specs.Reads.{Reads}
@@ -16,7 +17,6 @@ use Rattle.pack.specs.Held.{Proper}
 use Rattle.store.specs.Stored.{nodes}
 use Rattle.store.specs.declared.memo.Memo.{Memo}
 use Rattle.store.specs.declared.nodes.Store.{Store}
-use Rattle.needed.specs.Upto.{Upto}
 use Rattle.needed.specs.Firsts.{Noted, placed-many, placed-reads, noted-on}
 use Rattle.keys.specs.declared.classes.Keying.{Keying}
 use Rattle.premise.specs.Takes.{conclusionIn}

@@ -28,6 +28,7 @@ use Rattle.theory.specs.Classes.Premises.{Made}
 use Rattle.theory.specs.Unification.Circle.{length-upTo}
 use Rattle.base.specs.Part.{part}
 use Rattle.base.specs.Outside.{Outside}
+use Rattle.base.specs.Upto.{upto-outside}
 use Rattle.base.specs.declared.id.Node.{Node as Id}
 use Rattle.store.specs.Stored.{nodes}
 use Rattle.store.specs.declared.memo.Memo.{Memo}
@@ -44,7 +45,6 @@ use Rattle.copy.specs.Held.{Patterns, marksIn}
 use Rattle.kept.specs.Unified.{unify-same}
 use Rattle.kept.specs.FewArgs.{FewArgs, few-copy, few-instance, few-unify}
 use Rattle.needed.specs.Firsts.{Noted}
-use Rattle.needed.specs.Upto.{upto-outside}
 use Rattle.keys.specs.Keyed.{KeyedIn, keyed-noted}
 use Rattle.keys.specs.declared.classes.Keying.{Keying}
 use Rattle.keys.specs.declared.classes.Counts.{Counts as KeyCounts}

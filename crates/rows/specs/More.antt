@@ -14,6 +14,7 @@ use Rattle.store.specs.Stored.{nodes}
 use Rattle.store.specs.Recall.{Remembers}
 use Rattle.store.specs.declared.memo.Memo.{Memo}
 use Rattle.store.specs.declared.nodes.Store.{Store}
+use Rattle.base.specs.Upto.{Upto}
 use Rattle.catalog.specs.Whole.{recordsOf}
 use Rattle.catalog.specs.Same.{Same}
 use Rattle.catalog.specs.declared.whole.Catalog.{Catalog}
@@ -22,7 +23,7 @@ use Rattle.pack.specs.Held.{reads-on}
 use Rattle.lift.specs.Lifts.{Lifts}
 use Rattle.copy.specs.Held.{Patterns}
 use Rattle.kept.specs.Variables.{VariablesBelow}
-use Rattle.needed.specs.Upto.{Upto, upto-same}
+use Rattle.needed.specs.Upto.{upto-same}
 use Rattle.keys.specs.Keyed.{keyed-work-on}
 use Rattle.keys.specs.declared.classes.Keying.{Keying}
 use Rattle.keys.specs.declared.classes.Counts.{Counts}

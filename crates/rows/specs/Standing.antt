@@ -9,6 +9,7 @@ use Rattle.definition.specs.Keys.{keyed as keysOf}
 use Rattle.definition.specs.Classes.{Class, noClass, Built}
 use Rattle.base.specs.Part.{part-same}
 use Rattle.base.specs.Outside.{Outside}
+use Rattle.base.specs.Upto.{Upto, upto-outside}
 use Rattle.store.specs.Stored.{Stored, nodes}
 use Rattle.store.specs.Recall.{Remembers}
 use Rattle.store.specs.declared.memo.Memo.{Memo}
@@ -23,7 +24,7 @@ use Rattle.lift.specs.Lifts.{Lifts}
 use Rattle.lift.specs.declared.walk.Lifted.{Lifted}
 use Rattle.copy.specs.Held.{Patterns}
 use Rattle.kept.specs.Variables.{VariablesBelow}
-use Rattle.needed.specs.Upto.{Upto, upto-outside, upto-same}
+use Rattle.needed.specs.Upto.{upto-same}
 use Rattle.keys.specs.Words.{endOf}
 use Rattle.keys.specs.Keyed.{KeyedIn, KeyedWork, keyed-work-on}
 use Rattle.keys.specs.declared.classes.Keying.{Keying}
