@@ -13,6 +13,7 @@ use Rattle.base.specs.Upto.{Upto}
 use Rattle.catalog.specs.Whole.{recordsOf}
 use Rattle.catalog.specs.declared.whole.Catalog.{Catalog}
 use Rattle.pack.specs.Reads.{Reads}
+use Rattle.pack.specs.Goals.{MetBy}
 use Rattle.pack.specs.Held.{Proper}
 use Rattle.store.specs.Stored.{nodes}
 use Rattle.store.specs.declared.memo.Memo.{Memo}
@@ -23,7 +24,7 @@ use Rattle.premise.specs.Takes.{conclusionIn}
 use Rattle.premise.specs.declared.layout.Layout.{Layout}
 use Rattle.instance.specs.Held.{Given}
 use Rattle.instance.specs.declared.tables.Instance.{Instance}
-use Rattle.goals.specs.Results.{Answered, answered-first, answered-class}
+use Rattle.goals.specs.Results.{answered-first, answered-class}
 
 -- where the row of step f's class stands
 abbrev pub rowIn : (work class : List ℕ) (l : Layout) (f : ℕ) → ℕ
@@ -80,7 +81,7 @@ ready-on bytes work work′ class words c k l t st P b A R =
 
 -- the class of a goal's judgment
 module _ (bytes work class words : List ℕ) (c : Catalog) (k : Keying) (l : Layout) (t : Instance) (st : Store) (P : Pack) (b : Built) (R : Ready bytes work class words c k l t st P b)
-    (g : Goal) (s : ℕ) (A : Answered P g s) (f : ℕ) (F : f ≡ firstOf P s) where
+    (g : Goal) (s : ℕ) (A : MetBy P g s) (f : ℕ) (F : f ≡ firstOf P s) where
   -- its word is there
   pub class-there : f < length class
   class-there = omega (arith, F, answered-first P (R .proper .good) g s A, R .many)
