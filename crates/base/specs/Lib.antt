@@ -1,6 +1,7 @@
 -- Laws of bytes in lent buffers.
 pub mod Part
 pub mod Outside
+pub mod Upto
 pub mod Listed
 pub mod Hash
 pub mod Probe

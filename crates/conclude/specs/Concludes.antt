@@ -43,7 +43,7 @@ use Rattle.graph.specs.Pushes.{cells-shown}
 use Rattle.graph.specs.Inner.{many-nodes}
 use Rattle.copy.specs.Held.{Patterns}
 use Rattle.instantiate.specs.Building.{Spells, Asked, Instantiates}
-use Rattle.premise.specs.Layout.{placeOf, tableIn, copiesAt, Laid}
+use Rattle.premise.specs.Layout.{placeOf, tableIn, copiesAt, Laid, laid-on, laid-cells}
 use Rattle.premise.specs.Joins.{copiesIn}
 use Rattle.premise.specs.Meets.{instantiate-longer}
 use Rattle.premise.specs.declared.layout.Layout.{Layout}
@@ -270,14 +270,7 @@ module _ (bytes work words cells : List ℕ) (c : Catalog) (l : Layout) (st : St
             lifts = lifts-on bytes work words c (liftedOf l) st work₁ (outside .long) (λ i p. outside .ahead i (omega (arith, apart))) (H .lifts);
             reads = reads-on bytes work work₁ c same (H .lifts .laid .held .cataloged) P (H .reads);
             proper = H .proper;
-            laid = record {
-              index = H .laid .index;
-              memo = H .laid .memo;
-              stack = H .laid .stack;
-              variables = omega (arith, H .laid .variables, long);
-              table = omega (arith, H .laid .table, long);
-              inside = omega (arith, H .laid .inside, outside .long);
-            };
+            laid = laid-cells work₁ words cells cells₁ l long (laid-on work work₁ words cells l (outside .long) (H .laid));
             shows = built .1;
             inner = built .2;
             ends = sane P t h vs H .acyclic (H .ends);

@@ -4,9 +4,8 @@ use mathlib.Core.List.{List, _∷_}
 use Prim.Native.Nat.{ℕ, suc, _+_, _-_, _<_}
 use native.Mathlib.Omega.{arith}
 use lib.ListN.{length, take, drop}
-use Rattle.definition.specs.Pack.{Node, Pack}
+use Rattle.definition.specs.Pack.{Node}
 use Rattle.definition.specs.Store.{Stored, intern, patternWords}
-use Rattle.definition.specs.Classes.{freshVariables}
 use Rattle.theory.specs.Patterns.Interned.{Grows, interned}
 use Rattle.theory.specs.Walks.Again.{stored, headed}
 use Rattle.store.specs.Words.{nodeWith}
@@ -21,23 +20,19 @@ use Rattle.lift.specs.Lifts.{Lifts, Apart}
 use Rattle.lift.specs.Runs.{written-again, words-grow}
 use Rattle.lift.specs.declared.walk.Lifted.{Lifted}
 use Rattle.root.specs.Kept.{Interns}
+use Rattle.kept.specs.Interns.{cutTop}
 use Rattle.cut.specs.Fresh.{variablesOf, Freshened, Unfreshened, apart-both}
-
--- a predicate over fresh variables, interned
-unfoldable pub cutOf : Pack → ℕ → List Node → Stored
-unfolding freshVariables intern
-cutOf P p s = intern (variablesOf P p s .store) (headed p (variablesOf P p s .numbers))
 
 -- the conclusion is there: the definition's number and store, with its words written
 pub record Concluded (bytes work words work′ words′ : List ℕ) (c : Catalog) (l : Lifted) (st : Store) (p : ℕ) (q : Pattern) (st′ : Store) : Type 0 where
   pub lifts : Lifts bytes work′ words′ c l st′
-  pub is : OfHeld bytes work c (λ P. cutOf P p (nodes words st) ≡ stored (q .0) (nodes words′ st′))
+  pub is : OfHeld bytes work c (λ P. cutTop P p (nodes words st) ≡ stored (q .0) (nodes words′ st′))
   pub are : words′ ≡ written (nodes words′ st′) words
   pub apart : Apart work work′ l
 
 -- its words are more than there are
 pub record Unconcluded (bytes work words work′ : List ℕ) (c : Catalog) (l : Lifted) (st : Store) (p : ℕ) : Type 0 where
-  pub short : OfHeld bytes work c (λ P. length words < length (patternWords (cutOf P p (nodes words st) .store)))
+  pub short : OfHeld bytes work c (λ P. length words < length (patternWords (cutTop P p (nodes words st) .store)))
   pub apart : Apart work work′ l
 
 -- what `cut_conclusion` answers
@@ -52,7 +47,6 @@ key-node p ps = refl
 
 -- the variables have no room
 pub concludes-none : (bytes work words work₁ : List ℕ) (c : Catalog) (l : Lifted) (st : Store) (p : ℕ) → Unfreshened bytes work words work₁ c l st p → Unconcluded bytes work words work₁ c l st p
-unfolding cutOf
 concludes-none bytes work words work₁ c l st p F = record {
   short = λ P R Q.
       let v = variablesOf P p (nodes words st) in
@@ -70,8 +64,7 @@ module _ (bytes work words work₁ words₁ : List ℕ) (c : Catalog) (l : Lifte
   concludes-lent = λ P R Q. omega (arith, ap length (lent P R Q))
 
   -- the definition's node
-  interned-is : OfHeld bytes work c (λ P. intern (nodes words₁ st₁) (nodeWith (take (n + 1 - 0) (drop 0 key))) ≡ cutOf P p (nodes words st))
-  unfolding cutOf
+  interned-is : OfHeld bytes work c (λ P. intern (nodes words₁ st₁) (nodeWith (take (n + 1 - 0) (drop 0 key))) ≡ cutTop P p (nodes words st))
   interned-is = λ P R Q.
       ap (λ (ws : List ℕ). intern (nodes words₁ st₁) (nodeWith ws)) (lent P R Q)
       ∙ ap (intern (nodes words₁ st₁)) (key-node p (variablesOf P p (nodes words st) .numbers))

@@ -28,7 +28,7 @@ use Rattle.lift.specs.Nodes.{laid-same}
 use Rattle.lift.specs.Runs.{written-again, words-grow}
 use Rattle.lift.specs.declared.walk.Lifted.{Lifted}
 use Rattle.root.specs.Kept.{Indexed, Interns}
-use Rattle.cut.specs.Patterns.{freshly}
+use Rattle.kept.specs.Interns.{fresh-grows}
 use Rattle.cut.specs.declared.conclusion.Fresh.{Fresh}
 use Rattle.cut.specs.declared.conclusion.Fresh.the-variants as fresh
 
@@ -136,7 +136,7 @@ rest-short : (P : Pack) (p k m : ℕ) (key : List ℕ) (s₀ s : List Node) → 
     → m < length (patternWords (variablesOf P p s₀ .store))
 rest-short P p k m key s₀ s h R short =
     let t = intern s (variableNode k (getD (inputsOf P p) k 0)) .store in
-    let g = freshly (drop (suc k) (inputsOf P p)) (suc k) t .grows in
+    let g = fresh-grows (drop (suc k) (inputsOf P p)) (suc k) t in
     let e : restOf P p (suc k) t .store ≡ variablesOf P p s₀ .store = sym (ap (λ (o : StoredAll). o .store) (rest-next P p k s h)) ∙ R .store in
     omega (arith, words-grow t (restOf P p (suc k) t .store) g, ap (λ (u : List Node). length (patternWords u)) e)
 

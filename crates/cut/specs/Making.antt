@@ -7,14 +7,13 @@ use native.Mathlib.Omega.{arith}
 use lib.ListN.{length, getD, length-append, length-map}
 use Rattle.definition.specs.Pack.{Node, Pack}
 use Rattle.definition.specs.Keys.{noKeyed, keyed as keysOf}
-use Rattle.definition.specs.Store.{Stored, intern, patternWords}
+use Rattle.definition.specs.Store.{Stored, patternWords}
 use Rattle.definition.specs.Classes.{Class, Built, addClass, makeCut}
 use Rattle.definition.specs.Frame.{fine, refuse}
 use Rattle.definition.specs.Answer.{Lent}
 use Rattle.definition.specs.Run.{outcome}
 use Rattle.definition.specs.declared.Refusal.the-variants.{Short}
-use Rattle.theory.specs.Patterns.Interned.{Grows, grows-then, interned}
-use Rattle.theory.specs.Walks.Again.{stored, headed}
+use Rattle.theory.specs.Walks.Again.{stored}
 use Rattle.base.specs.Part.{part-same}
 use Rattle.base.specs.Outside.{Outside}
 use Rattle.base.specs.declared.id.Pattern.{Pattern}
@@ -29,6 +28,7 @@ use Rattle.pack.specs.Reads.{Reads, length-symbols}
 use Rattle.pack.specs.Says.{Readable, OfPack}
 use Rattle.pack.specs.Held.{Proper, reads-on}
 use Rattle.copy.specs.Held.{Patterns}
+use Rattle.kept.specs.Interns.{Interning, cutTop, cut-patterns}
 use Rattle.kept.specs.Variables.{VariablesBelow, variables-cut}
 use Rattle.keys.specs.declared.classes.Keying.{Keying}
 use Rattle.keys.specs.declared.classes.Counts.{Counts}
@@ -38,9 +38,8 @@ use Rattle.rows.specs.Standing.{liftedOf, Standing}
 use Rattle.rows.specs.Added.{builtWith, add-short-patterns, add-short-row, add-fine}
 use Rattle.rows.specs.More.{standing-more}
 use Rattle.rows.specs.Grown.{Grown, grown-count, grown-counted, grown-inside, grown-place, grown-adds}
-use Rattle.cut.specs.Patterns.{freshly, patterns-applied}
-use Rattle.cut.specs.Fresh.{inputsOf, variablesOf}
-use Rattle.cut.specs.Conclusion.{cutOf, Concluded, Unconcluded}
+use Rattle.cut.specs.Fresh.{inputsOf}
+use Rattle.cut.specs.Conclusion.{Concluded, Unconcluded}
 use Rattle.cut.specs.Marks.{Writing, Writes, writes-row}
 use Rattle.cut.specs.declared.make.CutMade.{CutMade}
 use Rattle.cut.specs.declared.make.CutMade.the-variants as made
@@ -89,32 +88,12 @@ Cuts bytes work class words work′ class′ words′ c k l st fill i p made.Sho
 
 -- ---- the definition alone
 -- a cut class is added
-made-is : (P : Pack) (p : ℕ) (b : Built) → makeCut P p b ≡ addClass b (cutOf P p (b .store) .store) (cutClass P p (cutOf P p (b .store) .number))
-unfolding makeCut cutOf
+made-is : (P : Pack) (p : ℕ) (b : Built) → makeCut P p b ≡ addClass b (cutTop P p (b .store) .store) (cutClass P p (cutTop P p (b .store) .number))
+unfolding makeCut
 made-is P p b = refl
 
--- its conclusion's store
-cut-grows : (P : Pack) (p : ℕ) (s : List Node) → Grows s (cutOf P p s .store)
-unfolding cutOf
-cut-grows P p s =
-    let v = variablesOf P p s in
-    grows-then s (v .store) (intern (v .store) (headed p (v .numbers)) .store) (freshly (inputsOf P p) 0 s .grows) (interned (v .store) (headed p (v .numbers)) .grows)
-
--- its number is in it
-cut-within : (P : Pack) (p : ℕ) (s : List Node) → cutOf P p s .number < length (cutOf P p s .store)
-unfolding cutOf
-cut-within P p s = interned (variablesOf P p s .store) (headed p (variablesOf P p s .numbers)) .within
-
--- its patterns
-cut-patterns : (P : Pack) → Proper P → (p : ℕ) → p < length (P .symbols) → (s : List Node) → Patterns s → Patterns (cutOf P p s .store)
-unfolding cutOf
-cut-patterns P Q p h s S =
-    let v = freshly (inputsOf P p) 0 s in
-    patterns-applied P (Q .few) p h (variablesOf P p s .store) (variablesOf P p s .numbers) (v .within) (omega (arith, v .many, Q .good .symbols p h .arity)) (v .patterns S)
-
 -- its variables' numbers
-cut-numbers : (P : Pack) → Proper P → (p : ℕ) → p < length (P .symbols) → (n : ℕ) → 16 ≤ n → (s : List Node) → VariablesBelow n s → VariablesBelow n (cutOf P p s .store)
-unfolding cutOf
+cut-numbers : (P : Pack) → Proper P → (p : ℕ) → p < length (P .symbols) → (n : ℕ) → 16 ≤ n → (s : List Node) → VariablesBelow n s → VariablesBelow n (cutTop P p s .store)
 cut-numbers P Q p h n m s B = variables-cut P (Q .few) p h n (omega (arith, m, Q .good .symbols p h .arity)) s B
 
 -- ---- at entry
@@ -129,14 +108,14 @@ module _ (bytes work class words cells : List ℕ) (c : Catalog) (k : Keying) (l
   asks-fits = A .standing .rows .fits
 
   -- a conclusion of the store, and of what is built
-  built-cut : cutOf P p (nodes words st) ≡ cutOf P p (b .store)
-  built-cut = ap (cutOf P p) (A .standing .store)
+  built-cut : cutTop P p (nodes words st) ≡ cutTop P p (b .store)
+  built-cut = ap (cutTop P p) (A .standing .store)
 
   -- there is no room for a pattern
   pub asks-short : (work′ : List ℕ) → Unconcluded bytes work words work′ c (liftedOf l) st p → (L : Lent) → L .pattern ≡ length words → outcome L (makeCut P p b) ≡ refuse (Short 2)
   asks-short work′ C L e =
       ap (outcome L) (made-is P p b)
-      ∙ add-short-patterns L b (cutOf P p (b .store) .store) (cutClass P p (cutOf P p (b .store) .number))
+      ∙ add-short-patterns L b (cutTop P p (b .store) .store) (cutClass P p (cutTop P p (b .store) .number))
       (omega (arith, e, C .short P (A .standing .reads) (A .standing .proper), ap (λ (o : Stored). length (patternWords (o .store))) built-cut))
 
   -- ---- when the conclusion is in the store
@@ -146,7 +125,7 @@ module _ (bytes work class words cells : List ℕ) (c : Catalog) (k : Keying) (l
     x = cutClass P p (q .0)
 
     -- as the definition has it
-    cut-is : cutOf P p (b .store) ≡ stored (q .0) (nodes words₁ st′)
+    cut-is : cutTop P p (b .store) ≡ stored (q .0) (nodes words₁ st′)
     cut-is = sym built-cut ∙ C .is P (A .standing .reads) (A .standing .proper)
 
     -- what is added
@@ -175,22 +154,23 @@ module _ (bytes work class words cells : List ℕ) (c : Catalog) (k : Keying) (l
     asked-grown =
         let S = A .standing in
         let laid = S .placed .laid in
-        let store : cutOf P p (b .store) .store ≡ nodes words₁ st′ = ap (λ (o : Stored). o .store) cut-is in
+        let store : cutTop P p (b .store) .store ≡ nodes words₁ st′ = ap (λ (o : Stored). o .store) cut-is in
+        let I : Interning (b .store) (stored (q .0) (nodes words₁ st′)) = subst (Interning (b .store)) cut-is (cut-patterns P (S .proper .good) (S .proper .few) p (A .symbol) (b .store) (subst Patterns (S .store) (S .patterns))) in
         record {
           ahead = record { long = C .apart .long; words = C .apart .ahead };
           long = long;
           lifts = C .lifts;
-          patterns = subst Patterns store (cut-patterns P (S .proper) p (A .symbol) (b .store) (subst Patterns (S .store) (S .patterns)));
+          patterns = I .patterns;
           numbers =
               subst (VariablesBelow (length cells + 16)) store
               (cut-numbers P (S .proper) p (A .symbol) (length cells + 16) (omega arith) (b .store) (subst (VariablesBelow (length cells + 16)) (S .store) (S .numbers)));
-          grows = subst (Grows (b .store)) store (cut-grows P p (b .store));
+          grows = I .grows;
           remembers =
               subst (λ (t : List ℕ). Remembers t memo)
               (sym (part-same (l .copied) (l .walk - l .copied) work₁ work (omega (arith, laid .memo, laid .stack, laid .variables, laid .table, laid .inside, C .apart .long)) (omega (arith, laid .memo, laid .stack, laid .variables, laid .table, laid .inside))
               (λ j h. C .apart .beyond (l .copied + j) (omega arith))))
               (S .remembers);
-          stored = let w = cut-within P p (b .store) in rw cut-is at w;
+          stored = I .inside;
           few = omega (arith, length-map (inputsOf P p) (λ s. true), S .proper .good .symbols p (A .symbol) .arity);
         }
 

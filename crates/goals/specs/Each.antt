@@ -11,6 +11,7 @@ use Rattle.definition.specs.Classes.{Built}
 use Rattle.definition.specs.Run.{outcome}
 use Rattle.definition.specs.Goals.{Root, testGoals}
 use Rattle.definition.specs.declared.Refusal.the-variants.{Goal as Unmet, Instance as Unlike}
+use Rattle.base.specs.Outside.{Outside, outside-none, outside-then}
 use Rattle.catalog.specs.Whole.{recordsOf}
 use Rattle.catalog.specs.declared.whole.Catalog.{Catalog}
 use Rattle.pack.specs.Reads.{length-goals}
@@ -18,7 +19,6 @@ use Rattle.store.specs.declared.memo.Memo.{Memo}
 use Rattle.store.specs.declared.nodes.Store.{Store}
 use Rattle.keys.specs.declared.classes.Keying.{Keying}
 use Rattle.premise.specs.declared.layout.Layout.{Layout}
-use Rattle.instance.specs.Tables.{Outside, outside-none, outside-then}
 use Rattle.instance.specs.Held.{Kept, given-on}
 use Rattle.instance.specs.declared.tables.Instance.{Instance}
 use Rattle.goals.specs.declared.each.Tested.{Tested}

@@ -8,80 +8,50 @@ use native.Mathlib.Omega.{arith}
 use borrow.Author.Tests.{eq-eqb, ne-eqb}
 use lib.Dec.{eqb}
 use lib.ListN.{length, getD}
-use Rattle.definition.specs.Pack.{Goal, Node, Pack, stepOf}
-use Rattle.definition.specs.Verdict.{valueOf, matches, noGoal, noResult}
+use Rattle.definition.specs.Test.{is, see}
+use Rattle.definition.specs.Pack.{Goal, Result, Node, Pack, stepOf}
+use Rattle.definition.specs.Verdict.{Met, valueOf, matches, noResult}
 use Rattle.definition.specs.Frame.{fine, refuse}
 use Rattle.definition.specs.Answer.{Lent}
 use Rattle.definition.specs.Store.{termOf}
 use Rattle.definition.specs.Keys.{firstOf, keyed as keysOf}
 use Rattle.definition.specs.Classes.{noClass, Built}
 use Rattle.definition.specs.Run.{outcome}
-use Rattle.definition.specs.Goals.{Root, instanceOf, testGoal}
+use Rattle.definition.specs.Goals.{Root, resultOf, instanceOf, testGoal}
 use Rattle.definition.specs.declared.Refusal.the-variants.{Goal as Unmet, Instance as Unlike}
+use Rattle.theory.specs.Classes.GoalsMet.{result-named}
+use Rattle.base.specs.Outside.{Outside, outside-none}
 use Rattle.catalog.specs.Whole.{recordsOf}
 use Rattle.catalog.specs.declared.whole.Catalog.{Catalog}
-use Rattle.catalog.specs.declared.region.Sought.{Sought}
 use Rattle.catalog.specs.declared.region.Sought.the-variants.{At, Nowhere}
-use Rattle.pack.specs.Reads.{length-nodes, length-steps, length-goals, length-results}
-use Rattle.pack.specs.Says.{OfPack, ResultOf}
-use Rattle.pack.specs.Held.{Held, OfHeld}
+use Rattle.pack.specs.Reads.{length-nodes, length-steps, length-goals}
+use Rattle.pack.specs.Says.{OfPack}
+use Rattle.pack.specs.Held.{OfHeld}
+use Rattle.pack.specs.Goals.{goalOf, MetBy, StepOf}
 use Rattle.store.specs.Stored.{nodes}
 use Rattle.store.specs.declared.memo.Memo.{Memo}
 use Rattle.store.specs.declared.nodes.Store.{Store}
 use Rattle.keys.specs.declared.classes.Keying.{Keying}
 use Rattle.premise.specs.declared.layout.Layout.{Layout}
-use Rattle.instance.specs.Tables.{Outside, outside-none}
 use Rattle.instance.specs.Held.{valueAt, Given, Kept}
 use Rattle.instance.specs.Matches.{Matches}
 use Rattle.instance.specs.declared.tables.Instance.{Instance}
 use Rattle.instance.specs.declared.walk.Matched.the-variants.{Yes, No}
 use Rattle.goals.specs.declared.one.Goal.{Goal as Answer}
 use Rattle.goals.specs.declared.one.Goal.the-variants as answers
-use Rattle.goals.specs.Results.{result-named, result-none, Answered, answered-step}
+use Rattle.goals.specs.Results.{result-found, answered-step}
 use Rattle.goals.specs.Runs.{goal-missed, goal-other, goal-unlike, goal-alike}
 use Rattle.goals.specs.Ready.{rowIn, Ready, Testable, class-there, place-there, row-there, conclusion-is, conclusion-stored}
 
--- a goal of the pack
-abbrev pub goalOf : Pack → ℕ → Goal
-goalOf P g = getD (P .goals) g noGoal
-
--- ---- the step of its result
--- it has the goal's judgment; or the goal is refused, whatever was built
-abbrev pub StepOf : List ℕ → List ℕ → Catalog → ℕ → Sought → Type 0
-StepOf bytes work c g (At s) = OfHeld bytes work c (λ P. Answered P (goalOf P g) s)
-StepOf bytes work c g Nowhere = OfHeld bytes work c (λ P. (b : Built) (i : ℕ) (L : Lent) → outcome L (testGoal P b i (goalOf P g)) ≡ refuse (Unmet i))
-
-module _ (bytes work : List ℕ) (c : Catalog) where
-  -- no result has the goal's name
-  pub step-none : (g : ℕ) → ResultOf bytes work c g Nowhere → StepOf bytes work c g Nowhere
-  step-none g f P R Q b i L = goal-missed P b i (goalOf P g) L (result-none (goalOf P g .name) (P .results) (f P R))
-
-  module _ (H : Held bytes work c) (g i : ℕ) (f : ResultOf bytes work c g (At i)) where
-    -- the result that was found is recorded
-    pub result-recorded : i < length (recordsOf work c 6)
-    result-recorded = omega (arith, length-results bytes (recordsOf work c) (H .pack) (H .reads), f (H .pack) (H .reads) .0)
-
-    module _ (s : ℕ) (e : OfPack bytes work c (λ P. getD (P .results) i noResult .step) s) where
-      -- and so is its step
-      pub step-recorded : s < length (recordsOf work c 4)
-      step-recorded = omega (arith, length-steps bytes (recordsOf work c) (H .pack) (H .reads), H .proper .good .results i (f (H .pack) (H .reads) .0) .step, e (H .pack) (H .reads))
-
-      module _ (j m : ℕ) (u : OfPack bytes work c (λ P. stepOf P s .judgment) j) (v : OfPack bytes work c (λ P. goalOf P g .judgment) m) where
-        -- the judgments are the same
-        pub step-same : j ≡ m → StepOf bytes work c g (At s)
-        step-same q P R Q = record {
-          result = i;
-          given = f P R .0;
-          found = result-named P (Q .once) (goalOf P g .name) i (f P R .0) (f P R .1);
-          step = e P R;
-          judgment = sym (u P R) ∙ q ∙ v P R;
-        }
-
-        -- they differ
-        pub step-other : (j ≡ m → ⊥) → StepOf bytes work c g Nowhere
-        step-other d P R Q b n L =
-            goal-other P b n (goalOf P g) L (getD (P .results) i noResult) (result-named P (Q .once) (goalOf P g .name) i (f P R .0) (f P R .1))
-            (ne-eqb (stepOf P (getD (P .results) i noResult .step) .judgment) (goalOf P g .judgment) (λ q. d (u P R ∙ ap (λ (x : ℕ). stepOf P x .judgment) (e P R) ∙ q ∙ sym (v P R))))
+-- a goal that is not met is refused, whatever was built
+unmet : (P : Pack) (b : Built) (g : Goal) → (Met P g → ⊥) → (i : ℕ) (L : Lent) → outcome L (testGoal P b i g) ≡ refuse (Unmet i)
+unmet P b g d i L = elim (see (resultOf (g .name) (P .results))) [
+  | is none p ↦ goal-missed P b i g L p
+  | is (some r) p ↦
+      let f = result-found (g .name) (P .results) r p in
+      let e : stepOf P (getD (P .results) (f .0) noResult .step) .judgment ≡ stepOf P (r .step) .judgment = ap (λ (x : Result). stepOf P (x .step) .judgment) (f .3) in
+      goal-other P b i g L r p (ne-eqb (stepOf P (r .step) .judgment) (g .judgment) (λ q. d (record { result = f .0; given = f .1; name = f .2; judgment = e ∙ q })))
+]
 
 -- ---- the test
 -- what is said of each pack that stands there, with what was built of it
@@ -101,7 +71,7 @@ TestsOne bytes work work′ class words c k l t st g (answers.Other s) =
 module _ (bytes work class words : List ℕ) (c : Catalog) (k : Keying) (l : Layout) (t : Instance) (st : Store) (g : ℕ) where
   -- there is no such step
   pub one-unmet : StepOf bytes work c g Nowhere → TestsOne bytes work work class words c k l t st g answers.Unmet
-  one-unmet S = (outside-none (t .pairs) (t .end) work, λ P b R. S P (R .reads) (R .proper) b)
+  one-unmet S = (outside-none (t .pairs) (t .end) work, λ P b R. unmet P b (goalOf P g) (S P (R .reads) (R .proper)))
 
   -- there is one, with a first step of its judgment, that one's conclusion, and the goal's judgment
   module _ (s : ℕ) (S : StepOf bytes work c g (At s)) where
@@ -114,7 +84,7 @@ module _ (bytes work class words : List ℕ) (c : Catalog) (k : Keying) (l : Lay
     -- its class's row is there, with a pattern of the store; and the goal's judgment is a node
     module _ (seen values : Memo) (T : Testable bytes work class words c k l t st seen values) (f : ℕ) (F : OfHeld bytes work c (λ P. f ≡ firstOf P s)) where
       -- it is the goal's
-      answer : Answered (T .pack) (goalOf (T .pack) g) s
+      answer : MetBy (T .pack) (goalOf (T .pack) g) s
       answer = S (T .pack) (T .ready .reads) (T .ready .proper)
 
       -- with the first step
@@ -161,12 +131,12 @@ module _ (bytes work class words : List ℕ) (c : Catalog) (k : Keying) (l : Lay
         M .0,
         λ P b R.
             let A = S P (R .reads) (R .proper) in
-            let r = getD (P .results) (A .result) noResult in
+            let r = getD (P .results) (A .met .result) noResult in
             let W = M .1 P (R .reads) (R .proper) in
-            let q : eqb (stepOf P (r .step) .judgment) (goalOf P g .judgment) ≡ true = eq-eqb (stepOf P (r .step) .judgment) (goalOf P g .judgment) (ap (λ (x : ℕ). stepOf P x .judgment) (sym (A .step)) ∙ A .judgment) in
+            let q : eqb (stepOf P (r .step) .judgment) (goalOf P g .judgment) ≡ true = eq-eqb (stepOf P (r .step) .judgment) (goalOf P g .judgment) (A .met .judgment) in
             let v : instanceOf P b (getD (keysOf P .words) (firstOf P (r .step)) 0) (goalOf P g .judgment) ≡ some (W .0) =
             ap (λ (x : ℕ). instanceOf P b (getD (keysOf P .words) (firstOf P x) 0) (goalOf P g .judgment)) (sym (A .step)) ∙ same-test P b R ∙ W .1 in
-            (record { goal = goalOf P g; step = firstOf P (r .step); class = getD (keysOf P .words) (firstOf P (r .step)) 0; values = W .0 }, λ i L. goal-alike P b i (goalOf P g) L r (A .found) q (W .0) v, W .2),
+            (record { goal = goalOf P g; step = firstOf P (r .step); class = getD (keysOf P .words) (firstOf P (r .step)) 0; values = W .0 }, λ i L. goal-alike P b i (goalOf P g) L r (result-named P (R .proper .once) (goalOf P g .name) (A .met .result) (A .met .given) (A .met .name)) q (W .0) v, W .2),
       )
 
       -- it is none
@@ -175,9 +145,9 @@ module _ (bytes work class words : List ℕ) (c : Catalog) (k : Keying) (l : Lay
         M .0,
         λ P b R i L.
             let A = S P (R .reads) (R .proper) in
-            let r = getD (P .results) (A .result) noResult in
-            let q : eqb (stepOf P (r .step) .judgment) (goalOf P g .judgment) ≡ true = eq-eqb (stepOf P (r .step) .judgment) (goalOf P g .judgment) (ap (λ (x : ℕ). stepOf P x .judgment) (sym (A .step)) ∙ A .judgment) in
+            let r = getD (P .results) (A .met .result) noResult in
+            let q : eqb (stepOf P (r .step) .judgment) (goalOf P g .judgment) ≡ true = eq-eqb (stepOf P (r .step) .judgment) (goalOf P g .judgment) (A .met .judgment) in
             let v : instanceOf P b (getD (keysOf P .words) (firstOf P (r .step)) 0) (goalOf P g .judgment) ≡ none =
             ap (λ (x : ℕ). instanceOf P b (getD (keysOf P .words) (firstOf P x) 0) (goalOf P g .judgment)) (sym (A .step)) ∙ same-test P b R ∙ M .1 P (R .reads) (R .proper) in
-            goal-unlike P b i (goalOf P g) L r (A .found) q v ∙ ap (λ (x : ℕ). refuse (Unlike x)) (sym (A .step)),
+            goal-unlike P b i (goalOf P g) L r (result-named P (R .proper .once) (goalOf P g .name) (A .met .result) (A .met .given) (A .met .name)) q v ∙ ap (λ (x : ℕ). refuse (Unlike x)) (sym (A .step)),
       )

@@ -8,22 +8,23 @@ use lib.Seq.{getD-take}
 use Rattle.definition.specs.Pack.{Goal, Pack}
 use Rattle.definition.specs.Keys.{firstOf, keyed as keysOf}
 use Rattle.definition.specs.Classes.{noClass, Built}
+use Rattle.base.specs.Outside.{Outside}
+use Rattle.base.specs.Upto.{Upto}
 use Rattle.catalog.specs.Whole.{recordsOf}
 use Rattle.catalog.specs.declared.whole.Catalog.{Catalog}
 use Rattle.pack.specs.Reads.{Reads}
+use Rattle.pack.specs.Goals.{MetBy}
 use Rattle.pack.specs.Held.{Proper}
 use Rattle.store.specs.Stored.{nodes}
 use Rattle.store.specs.declared.memo.Memo.{Memo}
 use Rattle.store.specs.declared.nodes.Store.{Store}
-use Rattle.needed.specs.Upto.{Upto}
 use Rattle.needed.specs.Firsts.{Noted, placed-many, placed-reads, noted-on}
 use Rattle.keys.specs.declared.classes.Keying.{Keying}
 use Rattle.premise.specs.Takes.{conclusionIn}
 use Rattle.premise.specs.declared.layout.Layout.{Layout}
-use Rattle.instance.specs.Tables.{Outside}
 use Rattle.instance.specs.Held.{Given}
 use Rattle.instance.specs.declared.tables.Instance.{Instance}
-use Rattle.goals.specs.Results.{Answered, answered-first, answered-class}
+use Rattle.goals.specs.Results.{answered-first, answered-class}
 
 -- where the row of step f's class stands
 abbrev pub rowIn : (work class : List ℕ) (l : Layout) (f : ℕ) → ℕ
@@ -59,9 +60,9 @@ pub record Testable (bytes work class words : List ℕ) (c : Catalog) (k : Keyin
 pub ready-on : (bytes work work′ class words : List ℕ) (c : Catalog) (k : Keying) (l : Layout) (t : Instance) (st : Store) (P : Pack) (b : Built) → Outside (t .pairs) (t .end) work work′
     → Ready bytes work class words c k l t st P b → Ready bytes work′ class words c k l t st P b
 ready-on bytes work work′ class words c k l t st P b A R =
-    let U : Upto (t .pairs) work work′ = record { long = A .long; words = A .before } in
-    let W : Upto (k .at) work work′ = record { long = A .long; words = λ i h. A .before i (omega (arith, R .firsts)) } in
-    let place : (i : ℕ) → i < length (b .classes) → getD work′ (l .rows + i) 0 ≡ getD work (l .rows + i) 0 = λ i h. A .before (l .rows + i) (omega (arith, R .places)) in
+    let U : Upto (t .pairs) work work′ = record { long = A .long; words = A .ahead } in
+    let W : Upto (k .at) work work′ = record { long = A .long; words = λ i h. A .ahead i (omega (arith, R .firsts)) } in
+    let place : (i : ℕ) → i < length (b .classes) → getD work′ (l .rows + i) 0 ≡ getD work (l .rows + i) 0 = λ i h. A .ahead (l .rows + i) (omega (arith, R .places)) in
     record {
       noted = noted-on bytes work work′ c (k .at) (t .pairs) (R .firsts) U (R .noted);
       reads = placed-reads bytes work work′ c (k .at) (R .noted .placed) W P (R .reads);
@@ -80,7 +81,7 @@ ready-on bytes work work′ class words c k l t st P b A R =
 
 -- the class of a goal's judgment
 module _ (bytes work class words : List ℕ) (c : Catalog) (k : Keying) (l : Layout) (t : Instance) (st : Store) (P : Pack) (b : Built) (R : Ready bytes work class words c k l t st P b)
-    (g : Goal) (s : ℕ) (A : Answered P g s) (f : ℕ) (F : f ≡ firstOf P s) where
+    (g : Goal) (s : ℕ) (A : MetBy P g s) (f : ℕ) (F : f ≡ firstOf P s) where
   -- its word is there
   pub class-there : f < length class
   class-there = omega (arith, F, answered-first P (R .proper .good) g s A, R .many)

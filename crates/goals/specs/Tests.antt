@@ -12,6 +12,7 @@ use Rattle.definition.specs.Classes.{Built}
 use Rattle.definition.specs.Run.{outcome}
 use Rattle.definition.specs.Goals.{Root, testGoals}
 use Rattle.definition.specs.declared.Refusal.the-variants.{Goal as Unmet, Instance as Unlike}
+use Rattle.base.specs.Outside.{Outside, outside-then, outside-wider}
 use Rattle.base.specs.Part.{part}
 use Rattle.catalog.specs.Whole.{recordsOf}
 use Rattle.catalog.specs.declared.whole.Catalog.{Catalog}
@@ -26,7 +27,7 @@ use Rattle.keys.specs.declared.classes.Counts.{Counts}
 use Rattle.premise.specs.declared.layout.Layout.{Layout}
 use Rattle.rows.specs.Rows.{row-within, row-conclusion}
 use Rattle.rows.specs.Standing.{Standing, standing-held, standing-keyed, standing-behind, standing-few}
-use Rattle.instance.specs.Tables.{lent, Outside, outside-then, outside-wider, lent-before, Clears}
+use Rattle.instance.specs.Tables.{lent, lent-before, Clears}
 use Rattle.instance.specs.Held.{Given, Kept, outside-same}
 use Rattle.instance.specs.declared.tables.Instance.{Instance}
 use Rattle.goals.specs.declared.each.Tested.{Tested}

@@ -9,9 +9,7 @@ use instance::walk::instance;
 use keys::classes::Keying;
 use needed::firsts::first_of;
 use pack::goal::goal_judgment;
-use pack::goal::goal_result;
-use pack::goal::result_step;
-use pack::step::step_judgment;
+use pack::goal::goal_step;
 use premise::layout::Layout;
 use store::memo::Memo;
 use store::nodes::Store;
@@ -19,9 +17,8 @@ ghost use mathlib.Core.Path.{_≡_};
 ghost use Prim.Native.Nat.{_+_, _<_};
 ghost use lib.ListN.{length, getD};
 ghost use Rattle.catalog.specs.Whole.{recordsOf};
-ghost use Rattle.pack.specs.Held.{Held};
 ghost use Rattle.goals.specs.Ready.{rowIn, Testable};
-ghost use Rattle.goals.specs.One.{StepOf, TestsOne};
+ghost use Rattle.goals.specs.One.{TestsOne};
 
 // A goal is met, with the memos as they are then; or it has no result, or one with another judgment; or the judgment of the result's step
 // is no instance of its class's conclusion.
@@ -29,25 +26,6 @@ pub enum Goal {
     Met(Memo, Memo),
     Unmet,
     Other(usize),
-}
-
-// The step of goal `g`'s result, if it has the goal's judgment.
-fn goal_step(pack: &[u8], work: &[u32], c: Catalog, g: usize) -> Sought
-    requires { ⌜ Held (now pack) (now work) c × (g < length (recordsOf (now work) c 5)) ⌝ }
-    ensures { λ r. ⌜ StepOf (now (pack .entry)) (now (work .entry)) c g r ⌝ }
-{
-    match goal_result(pack, work, c, g) {
-        Sought::At(i) => {
-            let s = result_step(pack, work, c, i) as usize;
-            if step_judgment(pack, work, c, s) == goal_judgment(pack, work, c, g) {
-                return Sought::At(s);
-            }
-            return Sought::Nowhere;
-        }
-        Sought::Nowhere => {
-            return Sought::Nowhere;
-        }
-    }
 }
 
 // The conclusion of step `f`'s class.

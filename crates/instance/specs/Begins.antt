@@ -1,5 +1,5 @@
 -- The test from its start to its end: two memos without entries and one pair, then the turns.
-use mathlib.Core.Path.{_≡_, refl, sym, ap, subst, _∙_}
+use mathlib.Core.Path.{_≡_, sym, ap, subst, _∙_}
 use mathlib.Core.List.{List, [], _∷_}
 use Prim.Native.Nat.{ℕ, suc, _+_, _*_, _-_, _≤_, _<_}
 use native.Mathlib.Omega.{arith}
@@ -8,6 +8,7 @@ use Rattle.definition.specs.Pack.{Pack, noNode}
 use Rattle.definition.specs.Store.{below}
 use Rattle.definition.specs.Verdict.{valueOf}
 use Rattle.definition.specs.Graph.{Pair}
+use Rattle.base.specs.Outside.{Outside, outside-none, outside-then, outside-wider, outside-set}
 use Rattle.catalog.specs.Whole.{recordsOf}
 use Rattle.catalog.specs.declared.whole.Catalog.{Catalog}
 use Rattle.pack.specs.Reads.{Reads, length-nodes}
@@ -23,7 +24,7 @@ use Rattle.store.specs.declared.memo.Memo.{Memo}
 use Rattle.instance.specs.declared.tables.Instance.{Instance}
 use Rattle.instance.specs.declared.walk.Turn.the-variants.{Unlike}
 use Rattle.instance.specs.declared.walk.Matched.the-variants.{Yes, No}
-use Rattle.instance.specs.Tables.{lent, Outside, outside-then, outside-wider, outside-set, lent-before, lent-behind, Clears, pairsIn, pairs-more}
+use Rattle.instance.specs.Tables.{lent, lent-before, lent-behind, Clears, pairsIn, pairs-more}
 use Rattle.instance.specs.Held.{Given, Kept, Memos, recall-before, recall-behind, given-reads, given-on, below-words}
 use Rattle.instance.specs.Takes.{Left, Ready, TakesPair}
 use Rattle.instance.specs.Matches.{Matches, left-stop, left-done, Going, going-reads}
@@ -124,7 +125,7 @@ module _ (bytes work words : List ℕ) (c : Catalog) (l : Instance) (st : Store)
 
         -- nothing was written since
         pub first-stays : Kept l fresh bare first first
-        first-stays = record { outside = record { long = refl; before = λ i h. refl; behind = λ i h. refl }; seen-kept = first-kept .seen-kept; values-kept = first-kept .values-kept }
+        first-stays = record { outside = outside-none _ _ _; seen-kept = first-kept .seen-kept; values-kept = first-kept .values-kept }
 
         -- all turns were taken
         pub matches-done : (work′ : List ℕ) → Going bytes first work′ words c l st fresh bare 0 → Matches bytes work work′ words c l st p n (Yes fresh bare)

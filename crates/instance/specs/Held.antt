@@ -12,6 +12,7 @@ use Rattle.definition.specs.Pack.{Pack, Node, noNode}
 use Rattle.definition.specs.Store.{isVariable, below, patternWords}
 use Rattle.definition.specs.Verdict.{Bound, valueOf}
 use Rattle.definition.specs.Analysis.{pairing}
+use Rattle.base.specs.Outside.{Outside}
 use Rattle.catalog.specs.Place.{Place}
 use Rattle.catalog.specs.Whole.{recordsOf}
 use Rattle.catalog.specs.Same.{endOf, Same, same-records}
@@ -27,7 +28,7 @@ use Rattle.store.specs.Recall.{recall, Remembers, length-recall}
 use Rattle.store.specs.declared.nodes.Store.{Store}
 use Rattle.store.specs.declared.memo.Memo.{Memo}
 use Rattle.instance.specs.declared.tables.Instance.{Instance}
-use Rattle.instance.specs.Tables.{lent, Outside, lent-long, lent-before, lent-behind, recallAt, Puts}
+use Rattle.instance.specs.Tables.{lent, lent-long, lent-before, lent-behind, recallAt, Puts}
 
 -- what a pattern node was matched with
 abbrev pub seenAt : List ℕ → Instance → Memo → ℕ → Option ℕ
@@ -89,7 +90,7 @@ recall-behind a e work work′ A b f h i m memo k = ap (λ (zs : List ℕ). getD
 -- ---- what stays
 -- the pack's tables are as they were
 pub outside-same : (work work′ : List ℕ) (c : Catalog) (a e : ℕ) → endOf c ≤ a → Outside a e work work′ → Same work work′ c
-outside-same work work′ c a e h A = record { long = A .long; words = λ i m. A .before i (omega arith) }
+outside-same work work′ c a e h A = record { long = A .long; words = λ i m. A .ahead i (omega arith) }
 
 module _ (bytes work words : List ℕ) (c : Catalog) (l : Instance) (st : Store) (seen values : Memo) (H : Given bytes work words c l st seen values) where
   -- how many nodes there are

@@ -11,6 +11,7 @@ use Rattle.definition.specs.Store.{below, termOf}
 use Rattle.definition.specs.Classes.{isSome}
 use Rattle.definition.specs.Verdict.{Bound, valueOf, matches}
 use Rattle.definition.specs.Graph.{Pair}
+use Rattle.base.specs.Outside.{Outside, outside-then}
 use Rattle.catalog.specs.Whole.{recordsOf}
 use Rattle.catalog.specs.declared.whole.Catalog.{Catalog}
 use Rattle.pack.specs.Reads.{Reads}
@@ -27,7 +28,7 @@ use Rattle.instance.specs.declared.tables.Instance.{Instance}
 use Rattle.instance.specs.declared.walk.Turn.the-variants.{On}
 use Rattle.instance.specs.declared.walk.Matched.{Matched}
 use Rattle.instance.specs.declared.walk.Matched.the-variants.{Yes, No}
-use Rattle.instance.specs.Tables.{Outside, outside-then, pairsIn, length-pairsIn}
+use Rattle.instance.specs.Tables.{pairsIn, length-pairsIn}
 use Rattle.instance.specs.Held.{seenAt, valueAt, Patterns, Kept, Memos, given-reads, given-on}
 use Rattle.instance.specs.Takes.{Left, Ready, leftWord, rightWord, TakesPair}
 

@@ -11,6 +11,7 @@ use Rattle.definition.specs.Store.{isVariable}
 use Rattle.definition.specs.Verdict.{Bound, valueOf}
 use Rattle.definition.specs.Graph.{Pair}
 use Rattle.definition.specs.Analysis.{pairing}
+use Rattle.base.specs.Outside.{Outside, outside-none, outside-then, outside-wider}
 use Rattle.catalog.specs.Whole.{recordsOf}
 use Rattle.catalog.specs.declared.whole.Catalog.{Catalog}
 use Rattle.pack.specs.Reads.{Reads}
@@ -25,7 +26,7 @@ use Rattle.store.specs.declared.memo.Memo.{Memo}
 use Rattle.instance.specs.declared.tables.Instance.{Instance}
 use Rattle.instance.specs.declared.walk.Turn.{Turn}
 use Rattle.instance.specs.declared.walk.Turn.the-variants.{On, Unlike}
-use Rattle.instance.specs.Tables.{lent, Outside, outside-none, outside-then, outside-wider, lent-before, lent-behind, Puts, pairsIn, pairs-same}
+use Rattle.instance.specs.Tables.{lent, lent-before, lent-behind, Puts, pairsIn, pairs-same}
 use Rattle.instance.specs.Held.{seenAt, Given, Kept, Memos, recall-more, recall-behind, outside-same, given-seen, given-reads, given-ground}
 use Rattle.instance.specs.Pushes.{argsOf, Pushable, Pushes}
 use Rattle.instance.specs.Taking.{take-seen, take-other, take-unlike, take-ahead}
@@ -145,7 +146,7 @@ module _ (bytes work words : List ℕ) (c : Catalog) (l : Instance) (st : Store)
 
       -- the pairs are as they were
       mid-pairs : pairsIn (l .pairs) mid top ≡ pairsIn (l .pairs) work top
-      mid-pairs = pairs-same (l .pairs) work mid top (λ i h. W .outside .before i (omega (arith, Q .given .pairs, Q .room (B .bare))))
+      mid-pairs = pairs-same (l .pairs) work mid top (λ i h. W .outside .ahead i (omega (arith, Q .given .pairs, Q .room (B .bare))))
 
       module _ (work′ : List ℕ) (on : ℕ) (A : Pushes bytes mid work′ words c l st top p n on) where
         -- what stays

@@ -7,6 +7,7 @@ use native.Mathlib.Omega.{arith}
 use lib.ListN.{length, getD, set, take}
 use Rattle.definition.specs.Pack.{Pack, noNode, nodeOf}
 use Rattle.definition.specs.Graph.{Pair}
+use Rattle.base.specs.Outside.{Outside, outside-none, outside-then, outside-set}
 use Rattle.catalog.specs.Whole.{recordsOf}
 use Rattle.catalog.specs.Same.{endOf, same-records}
 use Rattle.catalog.specs.Place.{Place}
@@ -18,7 +19,7 @@ use Rattle.theory.specs.Walks.Ahead.{beside, ahead, ahead-turn, ahead-all, ahea
 use Rattle.store.specs.Stored.{Stored, nodes}
 use Rattle.store.specs.declared.nodes.Store.{Store}
 use Rattle.instance.specs.declared.tables.Instance.{Instance}
-use Rattle.instance.specs.Tables.{lent, Outside, outside-none, outside-then, outside-set, lent-before, pairsIn, pairs-more}
+use Rattle.instance.specs.Tables.{lent, lent-before, pairsIn, pairs-more}
 use Rattle.instance.specs.Held.{outside-same}
 
 -- the arguments of a pattern

@@ -1,4 +1,4 @@
--- Parts of work as they are lent, what is written outside of them, memos in them, and the worklist's pairs.
+-- Parts of work as they are lent, memos in them, and the worklist's pairs.
 use mathlib.Core.Path.{_≡_, refl, sym, ap, ap₂, _∙_}
 use mathlib.Core.List.{List, [], _∷_}
 use mathlib.Core.Option.{Option, none, some}
@@ -7,7 +7,8 @@ use native.Mathlib.Omega.{arith}
 use lib.ListN.{length, getD, set, take, drop, replicate, length-set}
 use lib.Seq.{getD-set-same, getD-set-other}
 use Rattle.definition.specs.Graph.{Pair}
-use Rattle.base.specs.Part.{part, put, length-part, part-same, length-put, part-put, put-before, put-behind}
+use Rattle.base.specs.Outside.{Outside, outside-wider, outside-put, part-ahead, part-behind}
+use Rattle.base.specs.Part.{part, put, length-part, part-put}
 use Rattle.theory.specs.Walks.Ahead.{beside}
 use Rattle.store.specs.Recall.{recall, Remembers}
 use Rattle.store.specs.declared.memo.Memo.{Memo}
@@ -15,32 +16,6 @@ use Rattle.store.specs.declared.memo.Memo.{Memo}
 -- what stands from a up to e, as it is lent
 abbrev pub lent : ℕ → ℕ → List ℕ → List ℕ
 lent a e xs = take (e - a) (drop a xs)
-
--- the words outside of a part are as they were
-pub record Outside (a e : ℕ) (work work′ : List ℕ) : Type 0 where
-  pub long : length work′ ≡ length work
-  pub before : (i : ℕ) → i < a → getD work′ i 0 ≡ getD work i 0
-  pub behind : (i : ℕ) → e ≤ i → getD work′ i 0 ≡ getD work i 0
-
--- nothing was written
-pub outside-none : (a e : ℕ) (work : List ℕ) → Outside a e work work
-outside-none a e work = record { long = refl; before = λ i h. refl; behind = λ i h. refl }
-
--- one after the other
-pub outside-then : (a e : ℕ) (work work′ work″ : List ℕ) → Outside a e work work′ → Outside a e work′ work″ → Outside a e work work″
-outside-then a e work work′ work″ A B = record { long = B .long ∙ A .long; before = λ i h. B .before i h ∙ A .before i h; behind = λ i h. B .behind i h ∙ A .behind i h }
-
--- of a wider part
-pub outside-wider : (a e b f : ℕ) (work work′ : List ℕ) → b ≤ a → e ≤ f → Outside a e work work′ → Outside b f work work′
-outside-wider a e b f work work′ h k A = record { long = A .long; before = λ i m. A .before i (omega arith); behind = λ i m. A .behind i (omega arith) }
-
--- one word of a part is written
-pub outside-set : (a e : ℕ) (work : List ℕ) (i v : ℕ) → a ≤ i → i < e → Outside a e work (set work i v)
-outside-set a e work i v h k = record {
-  long = length-set work i v;
-  before = λ j m. getD-set-other work i j v 0 (λ q. omega (arith, q));
-  behind = λ j m. getD-set-other work i j v 0 (λ q. omega (arith, q));
-}
 
 -- how long a part is
 pub lent-long : (a e : ℕ) (xs : List ℕ) → a ≤ e → e ≤ length xs → length (lent a e xs) ≡ e - a
@@ -50,12 +25,12 @@ lent-long a e xs h k = length-part a (e - a) xs (omega arith)
 -- a part ahead of what was written
 pub lent-before : (a e : ℕ) (work work′ : List ℕ) → Outside a e work work′ → (b f : ℕ) → b ≤ f → f ≤ a → f ≤ length work → lent b f work′ ≡ lent b f work
 unfolding part
-lent-before a e work work′ A b f h k m = part-same b (f - b) work′ work (omega (arith, A .long)) (omega arith) (λ i l. A .before (b + i) (omega arith))
+lent-before a e work work′ A b f h k m = part-ahead a e work work′ A b (f - b) (omega arith) (omega arith)
 
 -- a part behind it
 pub lent-behind : (a e : ℕ) (work work′ : List ℕ) → Outside a e work work′ → (b f : ℕ) → b ≤ f → e ≤ b → f ≤ length work → lent b f work′ ≡ lent b f work
 unfolding part
-lent-behind a e work work′ A b f h k m = part-same b (f - b) work′ work (omega (arith, A .long)) (omega arith) (λ i l. A .behind (b + i) (omega arith))
+lent-behind a e work work′ A b f h k m = part-behind a e work work′ A b (f - b) (omega arith) (omega arith)
 
 -- a part that came back
 module _ (a e : ℕ) (xs : List ℕ) (h : a ≤ e) (k : e ≤ length xs) (ys : List ℕ) (long : length ys ≡ length (lent a e xs)) where
@@ -70,11 +45,7 @@ module _ (a e : ℕ) (xs : List ℕ) (h : a ≤ e) (k : e ≤ length xs) (ys : L
 
   -- and nothing else has changed
   pub back-outside : Outside a e xs (put a (e - a) ys xs)
-  back-outside = record {
-    long = length-put a (e - a) xs (omega arith) ys back-long;
-    before = λ i m. put-before a (e - a) xs (omega arith) ys back-long i m;
-    behind = λ i m. put-behind a (e - a) xs (omega arith) ys back-long i (omega arith);
-  }
+  back-outside = outside-wider a (a + (e - a)) a e xs (put a (e - a) ys xs) (omega arith) (omega arith) (outside-put a (e - a) xs ys (omega arith) back-long)
 
 -- ---- memos
 -- what a memo from a up to e has for a number

@@ -12,6 +12,7 @@ use Rattle.definition.specs.Store.{isVariable, below, variableHead}
 use Rattle.definition.specs.Verdict.{Bound, valueOf, bound}
 use Rattle.definition.specs.Graph.{Pair}
 use Rattle.definition.specs.Analysis.{pairing}
+use Rattle.base.specs.Outside.{outside-wider}
 use Rattle.catalog.specs.Whole.{recordsOf}
 use Rattle.catalog.specs.declared.whole.Catalog.{Catalog}
 use Rattle.pack.specs.Reads.{length-nodes}
@@ -26,7 +27,7 @@ use Rattle.store.specs.declared.memo.Memo.{Memo}
 use Rattle.instance.specs.declared.tables.Instance.{Instance}
 use Rattle.instance.specs.declared.walk.Turn.{Turn}
 use Rattle.instance.specs.declared.walk.Turn.the-variants.{On, Unlike}
-use Rattle.instance.specs.Tables.{outside-wider, lent-before, pairsIn, length-pairsIn, pairs-same}
+use Rattle.instance.specs.Tables.{lent-before, pairsIn, length-pairsIn, pairs-same}
 use Rattle.instance.specs.Held.{Given, Kept, Memos, recall-before, given-value}
 use Rattle.instance.specs.Binds.{Bindable, Gives, Binds}
 use Rattle.instance.specs.Pushes.{argsOf}
@@ -135,7 +136,7 @@ module _ (bytes work words : List ℕ) (c : Catalog) (l : Instance) (st : Store)
 
         -- the pairs are as they were
         bound-pairs : pairsIn (l .pairs) work′ top ≡ pairsIn (l .pairs) work top
-        bound-pairs = let H = Q .given in pairs-same (l .pairs) work work′ top (λ i h. B .0 .before i (omega (arith, ready-low, H .pairs, H .table)))
+        bound-pairs = let H = Q .given in pairs-same (l .pairs) work work′ top (λ i h. B .0 .ahead i (omega (arith, ready-low, H .pairs, H .table)))
 
         -- what the definition says of the pair
         bound-turn : (P : Pack) (ss vs : List Bound)

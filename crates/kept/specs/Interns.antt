@@ -94,15 +94,23 @@ unfolding freshVariables
 fresh-length [] k s = refl
 fresh-length (so ∷ sorts) k s = ap suc (fresh-length sorts (suc k) (intern s (variableNode k so) .store))
 
+-- the store grows by them
+pub fresh-grows : (sorts : List ℕ) (k : ℕ) (s : List Node) → Grows s (freshVariables sorts k s .store)
+unfolding freshVariables
+fresh-grows [] k s = grows-none s
+fresh-grows (so ∷ sorts) k s =
+    let t = intern s (variableNode k so) .store in
+    grows-then s t (freshVariables sorts (suc k) t .store) (interned s (variableNode k so) .grows) (fresh-grows sorts (suc k) t)
+
 pub fresh-patterns : (sorts : List ℕ) (k : ℕ) (s : List Node) → Patterns s → InterningAll s (freshVariables sorts k s)
 unfolding freshVariables
-fresh-patterns [] k s S = record { patterns = S; inside = tt; grows = grows-none s }
+fresh-patterns [] k s S = record { patterns = S; inside = tt; grows = fresh-grows [] k s }
 fresh-patterns (so ∷ sorts) k s S =
     let first = intern s (variableNode k so) in
     let F = intern-variable s k so S in
     let rest = freshVariables sorts (suc k) (first .store) in
     let R = fresh-patterns sorts (suc k) (first .store) (F .patterns) in
-    record { patterns = R .patterns; inside = (omega (arith, F .inside, grows-long (first .store) (rest .store) (R .grows)), R .inside); grows = grows-then s (first .store) (rest .store) (F .grows) (R .grows) }
+    record { patterns = R .patterns; inside = (omega (arith, F .inside, grows-long (first .store) (rest .store) (R .grows)), R .inside); grows = fresh-grows (so ∷ sorts) k s }
 
 -- ---- a cut class's conclusion
 -- a predicate over distinct variables

@@ -3,17 +3,15 @@ use mathlib.Core.Path.{_≡_, refl, sym, ap, _∙_}
 use mathlib.Core.Bool.{Bool, true, false}
 use mathlib.Core.List.{List, [], _∷_, _++_}
 use mathlib.Core.Option.{none, some}
-use Prim.Native.Nat.{ℕ, zero, suc, _+_, _<_, _≤_}
+use Prim.Native.Nat.{ℕ, zero, suc, _+_, _<_}
 use native.Mathlib.Omega.{arith}
 use borrow.Author.Tests.{eqb-true, eq-eqb, ne-eqb}
 use lib.Dec.{eqb}
-use lib.ListN.{length}
 use Rattle.definition.specs.Test.{is, see, never, any}
 use Rattle.definition.specs.Graph.{upTo}
 use Rattle.definition.specs.Analysis.{numberOf}
 use Rattle.definition.specs.Classes.{countOf, isSome, mark}
 use Rattle.theory.specs.Keys.Keyed.{count-append}
-use Rattle.theory.specs.Unification.Circle.{length-upTo}
 
 -- ---- numbers of variables
 -- two numbers are tested either way round
@@ -76,18 +74,6 @@ count-next-in f n e = let c = count-next f n in let m = ap mark e in omega arith
 pub count-next-out : (f : ℕ → Bool) (n : ℕ) → f n ≡ false → countOf f (upTo (n + 1)) ≡ countOf f (upTo n)
 unfolding mark
 count-next-out f n e = let c = count-next f n in let m = ap mark e in omega arith
-
--- no more than there are
-pub count-most : {A : Type 0} (f : A → Bool) (xs : List A) → countOf f xs ≤ length xs
-unfolding countOf
-count-most f [] = omega arith
-count-most f (x ∷ xs) = elim (see (f x)) [
-  | is true p ↦ rw (p, countOf) (let i = count-most f xs in omega arith)
-  | is false p ↦ rw (p, countOf) (let i = count-most f xs in omega arith)
-]
-
-pub count-below : (f : ℕ → Bool) (n : ℕ) → countOf f (upTo n) ≤ n
-count-below f n = let c = count-most f (upTo n) in let l = length-upTo n in omega arith
 
 -- the same count by tests that agree on all that are counted
 pub count-same : (f k : ℕ → Bool) (n : ℕ) → ((x : ℕ) → x < n → f x ≡ k x) → countOf f (upTo n) ≡ countOf k (upTo n)

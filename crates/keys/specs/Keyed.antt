@@ -15,11 +15,11 @@ use Rattle.definition.specs.Keys.{noKeyed, needed, keyed}
 use Rattle.theory.specs.Keys.KeyedLaws.{keyed-kept}
 use Rattle.theory.specs.Keys.Summed.{counts-sum}
 use Rattle.base.specs.Outside.{Outside, outside-none, outside-then, outside-wider}
+use Rattle.base.specs.Upto.{Upto, upto-outside}
 use Rattle.catalog.specs.Whole.{recordsOf}
 use Rattle.catalog.specs.declared.whole.Catalog.{Catalog}
 use Rattle.pack.specs.Reads.{length-nodes, length-steps}
 use Rattle.pack.specs.Held.{Proper, OfHeld}
-use Rattle.needed.specs.Upto.{Upto, upto-outside}
 use Rattle.needed.specs.Firsts.{Firsts, Noted, placed-back, judgment-given}
 use Rattle.keys.specs.Words.{firstIn, countIn, endOf, Keyable, placed, keyable-on}
 use Rattle.keys.specs.Table.{stepsOf}

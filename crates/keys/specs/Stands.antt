@@ -1,6 +1,6 @@
 -- What the words stand for: the keys of the first steps, as the definition has them; and one step more.
 use mathlib.Core.Path.{_≡_, refl, sym, ap, _∙_, subst}
-use mathlib.Core.Bool.{true, false}
+use mathlib.Core.Bool.{false}
 use mathlib.Core.List.{List, [], _∷_, _++_}
 use mathlib.Core.Option.{none, some}
 use Prim.Native.Nat.{ℕ, zero, suc, _+_, _*_, _≤_, _<_}
@@ -19,7 +19,8 @@ use Rattle.definition.specs.Classes.{countOf}
 use Rattle.definition.specs.Keys.{Key, Keyed, noKeyed, classIn, Keys, keyOf, oneMore, keyStep, keySteps, needed, keyed}
 use Rattle.theory.specs.Keys.Needed.{Among}
 use Rattle.theory.specs.Keys.Keyed.{class-found, class-none, counted}
-use Rattle.theory.specs.Keys.KeyedLaws.{Kept, kept-upTo, count-in, count-out}
+use Rattle.theory.specs.Keys.KeyedLaws.{Kept, first-set, count-in, count-out, steps-then, kept-upTo}
+use Rattle.theory.specs.Unification.Circle.{count-below}
 use Rattle.base.specs.Hash.{hashOf}
 use Rattle.base.specs.Probe.{Table, Passed, absent, grown, table-same}
 use Rattle.pack.specs.Held.{Proper}
@@ -52,15 +53,6 @@ unfolding keysTo
 keys-kept P G n h = kept-upTo P G (needed P) n h
 
 -- ---- one step more
--- steps, and then more of them
-steps-then : (P : Pack) (wanted xs ys : List ℕ) (k : Keys) → keySteps P wanted (xs ++ ys) k ≡ keySteps P wanted ys (keySteps P wanted xs k)
-unfolding keySteps
-steps-then P wanted [] ys k = refl
-steps-then P wanted (x ∷ xs) ys k = elim (see (any (eqb x) wanted)) [
-  | is true p ↦ rw (p, keySteps) (steps-then P wanted xs ys (keyStep P x k))
-  | is false p ↦ rw (p, keySteps) (steps-then P wanted xs ys (record { words = k .words ++ (nothing ∷ []); classes = k .classes }))
-]
-
 module _ (P : Pack) (n : ℕ) where
   -- the keys so far
   abbrev old : Keys
@@ -114,15 +106,6 @@ count-most [] i h = absurd (omega arith)
 count-most (x ∷ xs) zero h = omega arith
 count-most (x ∷ xs) (suc i) h = let l = count-most xs i (omega arith) in omega arith
 
--- of the first n steps at most n are needed
-among-most : (wanted : List ℕ) (n : ℕ) → countOf (λ t. any (eqb t) wanted) (upTo n) ≤ n
-unfolding countOf upTo
-among-most wanted zero = omega arith
-among-most wanted (suc n) = elim (see (any (eqb n) wanted)) [
-  | is true p ↦ let l = among-most wanted n in let e = count-in wanted n p in omega arith
-  | is false p ↦ let l = among-most wanted n in let e = count-out wanted n p in omega arith
-]
-
 -- ---- what the words stand for
 -- of n steps the first s have their classes, and the words of the others are marks
 pub record Stands (P : Pack) (work class : List ℕ) (k : Keying) (n s : ℕ) (done : Counts) (K : Keys) : Type 0 where
@@ -171,11 +154,11 @@ module _ (P : Pack) (Q : Proper P) (work class : List ℕ) (k : Keying) (n s : �
 
   -- the numbers are small
   pub count-small : (i : ℕ) → i < done .classes → countIn work k i ≤ s
-  count-small i l = omega (arith, S .count i l, count-most (K .classes) i (omega (arith, l, S .many)), kept .0 .summed, kept .1, among-most (needed P) (length (K .words)))
+  count-small i l = omega (arith, S .count i l, count-most (K .classes) i (omega (arith, l, S .many)), kept .0 .summed, kept .1, count-below (λ t. any (eqb t) (needed P)) (length (K .words)))
 
   -- no more steps are needed than were met
   pub seen-small : done .needed ≤ s
-  seen-small = omega (arith, S .seen, among-most (needed P) s)
+  seen-small = omega (arith, S .seen, count-below (λ t. any (eqb t) (needed P)) s)
 
   -- ---- one step more
   module _ (more : s < n) where
@@ -228,13 +211,6 @@ module _ (P : Pack) (Q : Proper P) (work class : List ℕ) (k : Keying) (n s : �
       unfolding classKey
       found = class-at (keyOf P (K .words) s) xs i (kept .0 .apart) inside (sym (class-key i l) ∙ spell-once (keyOf P class (firstIn work k i)) (keyOf P class s) e ∙ own-key)
 
-      -- the classes keep their first steps
-      first-is : (j : ℕ) → getD ys j noKeyed .first ≡ getD xs j noKeyed .first
-      first-is j = elim (ℕ-discrete j i) [
-        | yes q ↦ ap (λ (z : ℕ). getD ys z noKeyed .first) q ∙ ap (λ (x : Keyed). x .first) (getD-set-same xs i (oneMore (getD xs i noKeyed)) noKeyed inside) ∙ ap (λ (z : ℕ). getD xs z noKeyed .first) (sym q)
-        | no d ↦ ap (λ (x : Keyed). x .first) (getD-set-other xs i j (oneMore (getD xs i noKeyed)) noKeyed d)
-      ]
-
       -- its number is below that of the steps
       below : i < n
       below = omega (arith, l, few, h)
@@ -261,7 +237,7 @@ module _ (P : Pack) (Q : Proper P) (work class : List ℕ) (k : Keying) (n s : �
         marks = marks-more i;
         many = S .many ∙ sym (length-set xs i (oneMore (getD xs i noKeyed)));
         words = words-more i;
-        first = λ j b. joined-first work k (Y .room) n (Y .most) i below j (omega (arith, b, few, h)) ∙ S .first j b ∙ sym (first-is j);
+        first = λ j b. joined-first work k (Y .room) n (Y .most) i below j (omega (arith, b, few, h)) ∙ S .first j b ∙ sym (first-set xs i j inside);
         count = count-is;
         table =
             subst (λ (sl : List ℕ). Table (hashOf (hashesFor n)) sl (classKey P (joined work k i) (set class s i) k) (done .classes)) (sym (joined-slots work k (Y .room) n (Y .most) i below))

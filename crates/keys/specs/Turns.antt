@@ -16,11 +16,11 @@ use Rattle.base.specs.Part.{put, part-is}
 use Rattle.base.specs.Zero.{zeros-long, zeros-there, zeros-before, zeros-behind}
 use Rattle.base.specs.Probe.{Table, table-empty}
 use Rattle.base.specs.Outside.{Outside, outside-none, outside-then, outside-set, outside-wider}
+use Rattle.base.specs.Upto.{Upto, upto-outside}
 use Rattle.catalog.specs.Whole.{recordsOf}
 use Rattle.catalog.specs.declared.whole.Catalog.{Catalog}
 use Rattle.pack.specs.Reads.{Reads, length-nodes, length-steps}
 use Rattle.pack.specs.Held.{OfHeld}
-use Rattle.needed.specs.Upto.{Upto, upto-outside}
 use Rattle.needed.specs.Firsts.{Noted, firsts-on, placed-many, placed-back}
 use Rattle.needed.specs.Marks.{Marked, bit-no, bit-yes}
 use Rattle.keys.specs.Words.{countIn, slotsAt, endOf, slotsIn, Keyable, placed, keyable-on, joined, joined-outside, begun, begun-outside}

@@ -7,11 +7,11 @@ use lib.ListN.{length, getD, set, length-set}
 use lib.Seq.{getD-set-same, getD-set-other}
 use Rattle.base.specs.Part.{part, part-at, length-part, part-set, part-set-before}
 use Rattle.base.specs.Outside.{Outside, outside-then, outside-set}
+use Rattle.base.specs.Upto.{Upto}
 use Rattle.catalog.specs.Whole.{recordsOf}
 use Rattle.catalog.specs.declared.whole.Catalog.{Catalog}
 use Rattle.pack.specs.Held.{Held}
 use Rattle.certificate.specs.Marks.{marksAt, Marks}
-use Rattle.needed.specs.Upto.{Upto}
 use Rattle.needed.specs.Firsts.{Placed, placed-on, placed-many}
 use Rattle.keys.specs.declared.classes.Keying.{Keying}
 

@@ -1,8 +1,8 @@
 -- The key of a step written word by word.
-use mathlib.Core.Path.{_≡_, refl, sym, ap, _∙_}
+use mathlib.Core.Path.{_≡_, sym, ap, _∙_}
 use mathlib.Core.Bool.{true, false}
 use mathlib.Core.List.{List, [], _∷_, _++_, map, map-append}
-use Prim.Native.Nat.{ℕ, zero, suc, _+_, _≤_, _<_}
+use Prim.Native.Nat.{ℕ, suc, _+_, _≤_, _<_}
 use native.Mathlib.Numerals.{add-one}
 use native.Mathlib.Omega.{arith}
 use lib.ListN.{length, getD, set, take, length-set}
@@ -10,6 +10,7 @@ use lib.Seq.{take-suc, take-suc-set, take-all}
 use Rattle.definition.specs.Pack.{Pack, stepOf}
 use Rattle.definition.specs.Store.{nothing}
 use Rattle.definition.specs.Keys.{firstOf, predicateOf, isCut, keyOf}
+use Rattle.theory.specs.Keys.Keyed.{getD-any}
 use Rattle.catalog.specs.Whole.{recordsOf}
 use Rattle.catalog.specs.declared.whole.Catalog.{Catalog}
 use Rattle.pack.specs.Reads.{Reads, length-steps}
@@ -42,12 +43,6 @@ pub record Writing (bytes work class : List ℕ) (c : Catalog) (s n i : ℕ) (ke
   pub most : n ≤ 16
   pub many : OfPack bytes work c (λ P. length (stepOf P s .refs)) n
   pub words : OfHeld bytes work c (λ P. take (2 + i) key ≡ 1 ∷ stepOf P s .rule ∷ map (λ r. getD class (firstOf P r) nothing) (take i (stepOf P s .refs)))
-
--- any value stands for a cell that is not there
-pub getD-any : (xs : List ℕ) (i d e : ℕ) → i < length xs → getD xs i d ≡ getD xs i e
-getD-any [] i d e h = absurd (omega arith)
-getD-any (x ∷ xs) zero d e h = refl
-getD-any (x ∷ xs) (suc i) d e h = getD-any xs i d e (omega arith)
 
 -- two words
 pub two-words : (key : List ℕ) (a b : ℕ) → 2 ≤ length key → take 2 (set (set key 0 a) 1 b) ≡ a ∷ b ∷ []

@@ -12,6 +12,7 @@ use Rattle.definition.specs.Pack.{Pack, noStep, stepOf}
 use Rattle.definition.specs.Keys.{firstWith, firstOf, predicateOf, isCut}
 use Rattle.theory.specs.Keys.Needed.{first-earlier}
 use Rattle.base.specs.Outside.{Outside, outside-none, outside-then, outside-set}
+use Rattle.base.specs.Upto.{Upto, upto-outside}
 use Rattle.catalog.specs.Whole.{recordsOf, records-few}
 use Rattle.catalog.specs.Same.{Same, same-records}
 use Rattle.catalog.specs.declared.whole.Catalog.{Catalog}
@@ -19,7 +20,7 @@ use Rattle.pack.specs.Reads.{Reads, length-symbols, length-nodes, length-steps}
 use Rattle.pack.specs.Held.{Proper, Held, OfHeld, held-on, reads-on, reads-back}
 use Rattle.pack.specs.Says.{OfPack}
 use Rattle.certificate.specs.Marks.{marksAt, markOf, Marks, marked-cut, unmarked-cut}
-use Rattle.needed.specs.Upto.{Upto, upto-outside, upto-same, upto-marks}
+use Rattle.needed.specs.Upto.{upto-same, upto-marks}
 
 -- the words from `at` on say it
 pub record Firsts (P : Pack) (work : List ℕ) (at : ℕ) : Type 0 where

@@ -5,3 +5,4 @@ pub mod Laws
 pub mod Reads
 pub mod Says
 pub mod Spelt
+pub mod Goals

@@ -1,6 +1,8 @@
 -- The places of class building's words in work, and that they fit.
+use mathlib.Core.Path.{_≡_, sym, subst}
 use mathlib.Core.List.{List}
 use Prim.Native.Nat.{ℕ, _+_, _*_, _/_, _-_, _≤_}
+use native.Mathlib.Omega.{arith}
 use lib.ListN.{length}
 use Rattle.base.specs.Part.{part}
 use Rattle.copy.specs.declared.walk.Copying.{Copying}
@@ -43,3 +45,22 @@ pub record Laid (work words cells : List ℕ) (l : Layout) : Type 0 where
   pub variables : l .variables + (length cells + 16) ≤ l .graph
   pub table : l .graph + copiesEnd cells ≤ l .end
   pub inside : l .end ≤ length work
+
+-- another work as long
+pub laid-on : (work work′ words cells : List ℕ) (l : Layout) → length work′ ≡ length work → Laid work words cells l → Laid work′ words cells l
+laid-on work work′ words cells l e D = record { index = D .index; memo = D .memo; stack = D .stack; variables = D .variables; table = D .table; inside = omega (arith, e, D .inside) }
+
+-- other words, as many
+pub laid-words : (work words words′ cells : List ℕ) (l : Layout) → length words′ ≡ length words → Laid work words cells l → Laid work words′ cells l
+laid-words work words words′ cells l e D = record {
+  index = D .index;
+  memo = subst (λ (n : ℕ). l .copied + 2 * (n / 2) ≤ l .walk) (sym e) (D .memo);
+  stack = subst (λ (n : ℕ). l .walk + 2 * (n / 2) ≤ l .variables) (sym e) (D .stack);
+  variables = D .variables;
+  table = D .table;
+  inside = D .inside;
+}
+
+-- other cells, as many
+pub laid-cells : (work words cells cells′ : List ℕ) (l : Layout) → length cells′ ≡ length cells → Laid work words cells l → Laid work words cells′ l
+laid-cells work words cells cells′ l e D = record { index = D .index; memo = D .memo; stack = D .stack; variables = omega (arith, e, D .variables); table = omega (arith, e, D .table); inside = D .inside }

@@ -1,15 +1,14 @@
 -- One premise as a whole: a fresh copy of its ref's conclusion, then the instance unified with it.
 use mathlib.Core.Path.{_≡_, refl, sym, ap, ap₂, _∙_, subst}
 use mathlib.Core.Bool.{Bool}
-use mathlib.Core.List.{List, [], _∷_, _++_, map}
-use mathlib.Core.Option.{Option, none, some}
-use Prim.Native.Nat.{ℕ, zero, suc, _+_, _*_, _-_, _/_, _≤_, _<_}
+use mathlib.Core.List.{List, _++_}
+use mathlib.Core.Option.{none, some}
+use Prim.Native.Nat.{ℕ, _+_, _*_, _-_, _≤_, _<_}
 use native.Mathlib.Omega.{arith}
 use lib.ListN.{length, getD, take, drop}
 use Rattle.definition.specs.Pack.{Term, Node, Pack}
 use Rattle.definition.specs.Good.{Below}
 use Rattle.definition.specs.Laws.Grow.{below-more}
-use Rattle.definition.specs.Verdict.{Bound, valueOf}
 use Rattle.definition.specs.Graph.{Graph, upTo, Unified, unify, cells as cellsOf}
 use Rattle.definition.specs.Analysis.{Copy, copied, copy, instantiate}
 use Rattle.definition.specs.Classes.{inOrder}
@@ -25,7 +24,7 @@ use Rattle.catalog.specs.Same.{endOf, Same}
 use Rattle.catalog.specs.Whole.{recordsOf}
 use Rattle.catalog.specs.declared.whole.Catalog.{Catalog}
 use Rattle.pack.specs.Reads.{Reads}
-use Rattle.pack.specs.Held.{Proper, Held, OfHeld, held-on, reads-on}
+use Rattle.pack.specs.Held.{Held, OfHeld, held-on, reads-on}
 use Rattle.graph.specs.declared.graph.Graph.{Graph as Counts}
 use Rattle.graph.specs.Cells.{rowsEnd, nodes-few, Shows}
 use Rattle.graph.specs.Inner.{Inner, HoldsInner, many-nodes}
@@ -36,7 +35,7 @@ use Rattle.premise.specs.declared.layout.Layout.{Layout}
 use Rattle.premise.specs.declared.premise.Premise.{Premise}
 use Rattle.premise.specs.declared.premise.Taken.{Taken}
 use Rattle.premise.specs.declared.premise.Taken.the-variants.{On, Clash, Short}
-use Rattle.premise.specs.Layout.{copyingOf, indexIn, memoIn, tableIn, copiesAt, copiesEnd, Laid}
+use Rattle.premise.specs.Layout.{copyingOf, indexIn, memoIn, tableIn, copiesAt, Laid}
 use Rattle.premise.specs.Noted.{said}
 use Rattle.premise.specs.Copied.{copied-inside, copy-longer, copy-variables, in-order-few, in-order-said}
 use Rattle.premise.specs.Joins.{variablesIn, copiesIn}
@@ -89,20 +88,25 @@ pub record Taking (bytes work class words cells : List ℕ) (c : Catalog) (l : L
   pub env-long : p .vars ≤ length env
   pub copies : p .copies ≤ g .nodes
 
--- the copy of a ref's conclusion, in a graph
+-- a fresh copy of a conclusion, the graph with the premise's instance beside it, and both unified
+abbrev pub freshOf : List Node → List Bool → ℕ → Graph → Copy
+freshOf s flex p h = copy s flex h p
+
+abbrev pub placedOf : List Node → List Bool → ℕ → List ℕ → Term → Graph → Graph
+placedOf s flex p env t h = instantiate t env (freshOf s flex p h .graph) .graph
+
+abbrev pub joinedOf : List Node → List Bool → ℕ → List ℕ → Term → Graph → Unified
+joinedOf s flex p env t h = unify (placedOf s flex p env t h) (instantiate t env (freshOf s flex p h .graph) .at) (copied (freshOf s flex p h .nodes) p)
+
+-- the same of a row
 abbrev pub freshIn : List ℕ → List ℕ → Store → ℕ → Graph → Copy
-freshIn class words st row h = copy (nodes words st) (marksIn (flexIn class row)) h (conclusionIn class row)
+freshIn class words st row h = freshOf (nodes words st) (marksIn (flexIn class row)) (conclusionIn class row) h
 
--- the instance unified with it
-abbrev pub joinedIn : List ℕ → List ℕ → Store → ℕ → List ℕ → Term → Graph → Unified
-joinedIn class words st row env t h =
-    let fresh = freshIn class words st row h in
-    let inst = instantiate t env (fresh .graph) in
-    unify (inst .graph) (inst .at) (copied (fresh .nodes) (conclusionIn class row))
-
--- the graph with the instance
 abbrev pub placedIn : List ℕ → List ℕ → Store → ℕ → List ℕ → Term → Graph → Graph
-placedIn class words st row env t h = instantiate t env (freshIn class words st row h .graph) .graph
+placedIn class words st row env t h = placedOf (nodes words st) (marksIn (flexIn class row)) (conclusionIn class row) env t h
+
+abbrev pub joinedIn : List ℕ → List ℕ → Store → ℕ → List ℕ → Term → Graph → Unified
+joinedIn class words st row env t h = joinedOf (nodes words st) (marksIn (flexIn class row)) (conclusionIn class row) env t h
 
 -- of whatever pack, term and graph are held
 abbrev pub Says : List ℕ → List ℕ → List ℕ → Catalog → Layout → Counts → List ℕ → Premise → (Term → Graph → Type 0) → Type 0

@@ -1,4 +1,4 @@
-// A rule's premises in the term graph, each unified with a copy of its ref's conclusion.
+// One premise of a rule in the term graph, unified with a copy of its ref's conclusion.
 pub mod copies;
 pub mod layout;
 pub mod premise;

@@ -1,11 +1,10 @@
 -- All premises: what is left gives the whole.
-use mathlib.Core.Path.{_≡_, refl, sym, ap, ap₂, _∙_, subst}
+use mathlib.Core.Path.{_≡_, refl, sym, ap, _∙_, subst}
 use mathlib.Core.List.{List, [], _∷_, _++_, map}
-use Prim.Native.Nat.{ℕ, zero, suc, _+_, _*_, _-_, _≤_, _<_}
+use Prim.Native.Nat.{ℕ, zero, suc, _+_, _-_, _≤_, _<_}
 use native.Mathlib.Omega.{arith}
-use native.Mathlib.Numerals.{add-one}
 use lib.ListN.{length, getD, set, take, length-map, length-set}
-use lib.Seq.{take-suc, take-length, take-suc-set, length-take-le}
+use lib.Seq.{take-all, take-suc-set}
 use Rattle.definition.specs.Pack.{Terms, nil, cons, Pack, ruleOf, stepOf}
 use Rattle.definition.specs.Certificate.{count}
 use Rattle.definition.specs.Frame.{fine, refuse}
@@ -29,7 +28,7 @@ use Rattle.premises.specs.declared.premises.Ruling.{Ruling}
 use Rattle.premises.specs.declared.premises.Premised.{Premised}
 use Rattle.premises.specs.declared.premises.Premised.the-variants.{On, Clash, Short}
 use Rattle.premises.specs.Given.{refsOf, takes}
-use Rattle.premises.specs.Next.{Here, Nexting, Next, Nexts}
+use Rattle.premises.specs.Next.{Here, Nexting, Nexts}
 
 -- nothing is taken: a graph alone
 abbrev pub start : Graph → Premises
@@ -172,9 +171,6 @@ module _ (bytes before class words cells₀ : List ℕ) (c : Catalog) (k : Keyin
   none-left nil e = refl
   none-left (cons t ts) e = absurd (omega arith)
 
-  take-whole : (xs : List ℕ) (n : ℕ) → length xs ≡ n → take n xs ≡ xs
-  take-whole xs n e = ap (λ (m : ℕ). take m xs) (sym e) ∙ take-length xs
-
   pub going-done : u .premises ≤ i → TakesAll bytes before work class words cells₀ cells c k l st memo₀ g₀ env u instances (On g memo from copies)
   unfolding takePremises
   going-done h = (
@@ -190,7 +186,7 @@ module _ (bytes before class words cells₀ : List ℕ) (c : Catalog) (k : Keyin
           state = M .state;
           here = at;
           instances = ap (λ (j : ℕ). take j instances) (sym e) ∙ M .instances-are;
-          judgments = M .judgments ∙ ap (judged P) (ap (λ (j : ℕ). take j (refsOf P u)) e ∙ take-whole (refsOf P u) (u .premises) (refs-many r fill P b k′ B));
+          judgments = M .judgments ∙ ap (judged P) (ap (λ (j : ℕ). take j (refsOf P u)) e ∙ take-all (u .premises) (refsOf P u) (omega (arith, refs-many r fill P b k′ B)));
           is = λ L q. sym (M .same L q) ∙ ap (λ (ts : Terms). outcome L (takes P b u ts (M .refs) (M .state))) z ∙ outcome-return-end L (M .state);
         },
   )

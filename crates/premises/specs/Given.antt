@@ -1,47 +1,27 @@
 -- What the premises of the step that makes a class come to, one by one.
-use mathlib.Core.Path.{_≡_, refl, sym, ap, ap₂, _∙_, subst}
-use mathlib.Core.Bool.{Bool}
+use mathlib.Core.Path.{_≡_, _∙_}
 use mathlib.Core.List.{List, [], _∷_, _++_, map}
-use mathlib.Core.Option.{Option, none, some}
-use Prim.Native.Nat.{ℕ, zero, suc, _+_, _*_, _-_, _≤_, _<_}
-use native.Mathlib.Omega.{arith}
-use lib.ListN.{length, getD, take, drop, length-append, length-map}
-use lib.Seq.{drop-cons, getD-take}
-use Rattle.definition.specs.Pack.{Term, Terms, nil, cons, Node, Pack, ruleOf, stepOf}
+use mathlib.Core.Option.{none, some}
+use Prim.Native.Nat.{ℕ, _+_, _-_, _≤_, _<_}
+use lib.ListN.{length, getD}
+use Rattle.definition.specs.Pack.{Term, Terms, cons, Pack, ruleOf, stepOf}
 use Rattle.definition.specs.Certificate.{count}
-use Rattle.definition.specs.Good.{Below}
-use Rattle.definition.specs.Frame.{Read, fine, refuse}
+use Rattle.definition.specs.Frame.{refuse}
 use Rattle.definition.specs.Answer.{Lent}
 use Rattle.definition.specs.Run.{Run, lengthOf, outcome}
 use Rattle.definition.specs.Keys.{firstOf, keyed as keysOf}
-use Rattle.definition.specs.Graph.{Graph, upTo, Unified, unify, cells as cellsOf}
-use Rattle.definition.specs.Analysis.{Copy, copied, copy, instantiate}
+use Rattle.definition.specs.Graph.{Graph, upTo, Unified, cells as cellsOf}
+use Rattle.definition.specs.Analysis.{instantiate}
 use Rattle.definition.specs.Classes.{Class, noClass, Built, Premises, inOrder, takePremises}
-use Rattle.definition.specs.Laws.Prefix.{termWords, termsWords}
 use Rattle.definition.specs.declared.Refusal.the-variants.{Clash as Clashes, Short as TooShort}
 use Rattle.theory.specs.Classes.Premises.{Made}
-use Rattle.base.specs.Outside.{Outside}
-use Rattle.store.specs.Stored.{nodes}
-use Rattle.store.specs.declared.memo.Memo.{Memo}
-use Rattle.store.specs.declared.nodes.Store.{Store}
-use Rattle.catalog.specs.Whole.{recordsOf}
-use Rattle.catalog.specs.declared.whole.Catalog.{Catalog}
-use Rattle.pack.specs.Spelt.{Spelt}
-use Rattle.graph.specs.declared.graph.Graph.{Graph as Counts}
-use Rattle.graph.specs.Cells.{Shows}
-use Rattle.graph.specs.Inner.{Inner}
-use Rattle.copy.specs.Held.{marksIn}
-use Rattle.keys.specs.declared.classes.Keying.{Keying}
-use Rattle.keys.specs.declared.classes.Counts.{Counts as KeyCounts}
-use Rattle.premise.specs.Layout.{tableIn}
-use Rattle.premise.specs.Joins.{copiesIn}
-use Rattle.premise.specs.Takes.{conclusionIn, countIn, flexIn, freshIn, joinedIn, placedIn}
-use Rattle.premise.specs.declared.layout.Layout.{Layout}
-use Rattle.premise.specs.declared.premise.Taken.{Taken}
-use Rattle.premise.specs.declared.premise.Taken.the-variants.{On, Clash, Short}
-use Rattle.rows.specs.Standing.{Standing}
+use Rattle.premise.specs.Takes.{freshOf, placedOf, joinedOf}
 use Rattle.kept.specs.Runs.{outcome-note, outcome-short, outcome-some, outcome-none}
 use Rattle.premises.specs.declared.premises.Ruling.{Ruling}
+
+-- the refs' first steps
+abbrev pub refsOf : Pack → Ruling → List ℕ
+refsOf P u = map (firstOf P) (stepOf P (u .step) .refs)
 
 -- the step makes the next class: its rule and what that has, and its refs' classes are made
 pub record Ruled (P : Pack) (b : Built) (u : Ruling) : Type 0 where
@@ -49,11 +29,7 @@ pub record Ruled (P : Pack) (b : Built) (u : Ruling) : Type 0 where
   pub rule : u .rule ≡ stepOf P (u .step) .rule
   pub vars : u .vars ≡ length (ruleOf P (u .rule) .vars)
   pub premises : u .premises ≡ count (ruleOf P (u .rule) .premises)
-  pub made : Made (keysOf P .words) b (map (firstOf P) (stepOf P (u .step) .refs))
-
--- the refs' first steps
-abbrev pub refsOf : Pack → Ruling → List ℕ
-refsOf P u = map (firstOf P) (stepOf P (u .step) .refs)
+  pub made : Made (keysOf P .words) b (refsOf P u)
 
 -- premises from some on, with their refs
 abbrev pub takes : Pack → Built → Ruling → Terms → List ℕ → Premises → Run Premises
@@ -64,23 +40,13 @@ takes P b u ts refs ps = takePremises P (u .step) (keysOf P .words) b (upTo (u .
 abbrev pub classOf : Pack → Built → ℕ → Class
 classOf P b r = getD (b .classes) (getD (keysOf P .words) r 0) noClass
 
--- a fresh copy of its conclusion, the premise's instance, and both unified
-abbrev pub freshOf : List Node → List Bool → ℕ → Graph → Copy
-freshOf s flex p h = copy s flex h p
-
-abbrev pub placedOf : List Node → List Bool → ℕ → List ℕ → Term → Graph → Graph
-placedOf s flex p env t h = instantiate t env (copy s flex h p .graph) .graph
-
-abbrev pub joinedOf : List Node → List Bool → ℕ → List ℕ → Term → Graph → Unified
-joinedOf s flex p env t h = unify (instantiate t env (copy s flex h p .graph) .graph) (instantiate t env (copy s flex h p .graph) .at) (copied (copy s flex h p .nodes) p)
-
 -- what is held then
 abbrev pub nextOf : Pack → Built → Ruling → Term → ℕ → Premises → Graph → Premises
 nextOf P b u t r ps g = record {
   graph = g;
-  instances = ps .instances ++ (instantiate t (upTo (u .vars)) (copy (b .store) (classOf P b r .flex) (ps .graph) (classOf P b r .conclusion) .graph) .at ∷ []);
+  instances = ps .instances ++ (instantiate t (upTo (u .vars)) (freshOf (b .store) (classOf P b r .flex) (classOf P b r .conclusion) (ps .graph) .graph) .at ∷ []);
   judgments = ps .judgments ++ (stepOf P r .judgment ∷ []);
-  copies = ps .copies ++ inOrder (upTo (length (classOf P b r .flex))) (copy (b .store) (classOf P b r .flex) (ps .graph) (classOf P b r .conclusion) .variables);
+  copies = ps .copies ++ inOrder (upTo (length (classOf P b r .flex))) (freshOf (b .store) (classOf P b r .flex) (classOf P b r .conclusion) (ps .graph) .variables);
 }
 
 module _ (P : Pack) (b : Built) (u : Ruling) (t : Term) (ts : Terms) (r : ℕ) (refs : List ℕ) (ps : Premises) (L : Lent) where

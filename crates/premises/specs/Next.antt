@@ -2,11 +2,11 @@
 use mathlib.Core.Path.{_≡_, refl, sym, ap, ap₂, _∙_, subst}
 use mathlib.Core.Bool.{Bool}
 use mathlib.Core.List.{List, [], _∷_, _++_, map}
-use mathlib.Core.Option.{none, some}
+use mathlib.Core.Option.{some}
 use Prim.Native.Nat.{ℕ, zero, suc, _+_, _*_, _-_, _≤_, _<_}
 use native.Mathlib.Omega.{arith}
-use lib.ListN.{length, getD, take, drop, length-append, length-map}
-use lib.Seq.{drop-cons, getD-take, getD-at}
+use lib.ListN.{length, getD, drop, length-append, length-map}
+use lib.Seq.{drop-cons, getD-take}
 use lib.ListN.{List·getD-append}
 use Rattle.definition.specs.Pack.{Term, Terms, nil, cons, Node, Pack, ruleOf, stepOf}
 use Rattle.definition.specs.Certificate.{count}
@@ -28,6 +28,7 @@ use Rattle.theory.specs.Classes.Premises.{Made}
 use Rattle.theory.specs.Unification.Circle.{length-upTo}
 use Rattle.base.specs.Part.{part}
 use Rattle.base.specs.Outside.{Outside}
+use Rattle.base.specs.Upto.{upto-outside}
 use Rattle.base.specs.declared.id.Node.{Node as Id}
 use Rattle.store.specs.Stored.{nodes}
 use Rattle.store.specs.declared.memo.Memo.{Memo}
@@ -43,25 +44,21 @@ use Rattle.graph.specs.Inner.{Inner, many-nodes}
 use Rattle.copy.specs.Held.{Patterns, marksIn}
 use Rattle.kept.specs.Unified.{unify-same}
 use Rattle.kept.specs.FewArgs.{FewArgs, few-copy, few-instance, few-unify}
-use Rattle.needed.specs.Firsts.{Noted}
-use Rattle.needed.specs.Upto.{upto-outside}
-use Rattle.keys.specs.Keyed.{KeyedIn, keyed-noted}
 use Rattle.keys.specs.declared.classes.Keying.{Keying}
 use Rattle.keys.specs.declared.classes.Counts.{Counts as KeyCounts}
 use Rattle.premise.specs.Layout.{tableIn}
 use Rattle.premise.specs.Joins.{copiesIn}
 use Rattle.premise.specs.Meets.{SpellsAt, instantiate-longer}
 use Rattle.premise.specs.Copied.{copy-order-below}
-use Rattle.premise.specs.Takes.{conclusionIn, countIn, flexIn, Row, freshIn, joinedIn, placedIn, Taking, Took, TakesTo}
+use Rattle.premise.specs.Takes.{conclusionIn, countIn, flexIn, Row, placedOf, joinedOf, freshIn, placedIn, joinedIn, Taking, Took, TakesTo}
 use Rattle.premise.specs.declared.layout.Layout.{Layout}
 use Rattle.premise.specs.declared.premise.Premise.{Premise}
 use Rattle.premise.specs.declared.premise.Taken.{Taken}
 use Rattle.premise.specs.declared.premise.Taken.the-variants.{On, Clash, Short}
-use Rattle.rows.specs.Words.{widthOf}
 use Rattle.rows.specs.Rows.{row-within, row-conclusion, row-count, row-marks}
 use Rattle.rows.specs.Standing.{Standing, standing-held, standing-keyed, standing-behind, standing-few, standing-on, standing-cells}
 use Rattle.premises.specs.declared.premises.Ruling.{Ruling}
-use Rattle.premises.specs.Given.{Ruled, refsOf, takes, classOf, placedOf, joinedOf, nextOf, takes-short, takes-clash, takes-on}
+use Rattle.premises.specs.Given.{Ruled, refsOf, takes, nextOf, takes-short, takes-clash, takes-on}
 
 -- ---- the state
 -- the premises from i on are left, as terms with their refs: those before are taken into the graph

@@ -1,5 +1,5 @@
 -- Patterns by a list of words: for each node a count, a head and so many arguments, interned in order.
-use mathlib.Core.Path.{_≡_, refl, sym, ap, subst, _∙_}
+use mathlib.Core.Path.{_≡_, refl, sym, ap, _∙_}
 use mathlib.Core.Bool.{Bool, true, false}
 use mathlib.Core.List.{List, [], _∷_, _++_}
 use mathlib.Core.Option.{none, some}
@@ -9,14 +9,14 @@ use native.Mathlib.Numerals.{add-one}
 use native.Mathlib.Decide.{ℕ-discrete}
 use borrow.Author.Tests.{lt-ltb, le-ltb, le-leb, lt-leb, leb-true, ltb-true, eqb-true, eq-eqb, ne-eqb}
 use lib.Dec.{eqb, leb, ltb}
-use lib.ListN.{length, getD, take, drop, length-append, length-drop, length-take, drop-of-length-le, List·getD-append}
-use lib.Seq.{drop-cons, drop-drop, getD-drop, getD-at}
+use lib.ListN.{length, getD, take, drop, length-append, length-drop, drop-of-length-le, List·getD-append}
+use lib.Seq.{take-length, drop-cons, drop-drop, getD-drop, getD-at}
 use Rattle.definition.specs.Test.{is, see, never, _and_, all, and-parts}
 use Rattle.definition.specs.Pack.{Node, noNode}
 use Rattle.definition.specs.Good.{Below}
 use Rattle.definition.specs.Store.{isVariable, variableHead, below, placeOf, intern, patternWords}
-use Rattle.theory.specs.Copies.Terms.{Earlier, below-variable, below-applied}
-use Rattle.store.specs.Words.{nodeWith, key-args}
+use Rattle.theory.specs.Copies.Terms.{below-variable, below-applied}
+use Rattle.store.specs.Words.{nodeWith}
 use Rattle.copy.specs.Held.{Patterns}
 
 -- ---- the definition
@@ -124,11 +124,7 @@ module _ (n : ℕ) (key : List ℕ) where
 
 -- the arguments as they are lent
 pub args-lent : (key : List ℕ) → 0 < length key → take (length key - 1) (drop 1 key) ≡ drop 1 key
-args-lent key h = let e : length (drop 1 key) ≡ length key - 1 = length-drop 1 key in ap (λ (k : ℕ). take k (drop 1 key)) (sym e) ∙ take-all (drop 1 key)
-  where
-    take-all : (xs : List ℕ) → take (length xs) xs ≡ xs
-    take-all [] = refl
-    take-all (x ∷ xs) = ap (λ (ys : List ℕ). x ∷ ys) (take-all xs)
+args-lent key h = let e : length (drop 1 key) ≡ length key - 1 = length-drop 1 key in ap (λ (k : ℕ). take k (drop 1 key)) (sym e) ∙ take-length (drop 1 key)
 
 -- ---- a store of patterns stays one
 -- what a pattern is

@@ -12,6 +12,7 @@ use Rattle.theory.specs.Patterns.Interned.{Grows}
 use Rattle.theory.specs.Walks.Lifting.{Right as LiftsRight}
 use Rattle.base.specs.Part.{part-same}
 use Rattle.base.specs.Outside.{part-behind}
+use Rattle.base.specs.Upto.{Upto}
 use Rattle.store.specs.Stored.{Stored, nodes}
 use Rattle.store.specs.Recall.{Remembers}
 use Rattle.store.specs.declared.memo.Memo.{Memo}
@@ -26,7 +27,6 @@ use Rattle.lift.specs.Memo.{lifted-same}
 use Rattle.lift.specs.declared.walk.Lifted.{Lifted}
 use Rattle.copy.specs.Held.{Patterns}
 use Rattle.kept.specs.Variables.{VariablesBelow}
-use Rattle.needed.specs.Upto.{Upto}
 use Rattle.keys.specs.Words.{countIn}
 use Rattle.keys.specs.declared.classes.Keying.{Keying}
 use Rattle.keys.specs.declared.classes.Counts.{Counts}

@@ -1,7 +1,7 @@
 -- One class more: its patterns in the store, its row written and its place noted leave what class building holds.
 use mathlib.Core.Path.{_≡_, refl, sym, ap, _∙_, subst}
 use mathlib.Core.List.{List, [], _∷_, _++_}
-use Prim.Native.Nat.{ℕ, _+_, _*_, _/_, _≤_, _<_}
+use Prim.Native.Nat.{ℕ, _+_, _≤_, _<_}
 use native.Mathlib.Omega.{arith}
 use native.Mathlib.Decide.{decLt}
 use lib.ListN.{length, getD, length-append, List·getD-append}
@@ -10,6 +10,7 @@ use Rattle.definition.specs.Pack.{Pack, Node}
 use Rattle.definition.specs.Keys.{noKeyed, keyed as keysOf}
 use Rattle.definition.specs.Classes.{Class, noClass, Built}
 use Rattle.theory.specs.Patterns.Interned.{Grows, grows-long}
+use Rattle.base.specs.Upto.{Upto}
 use Rattle.store.specs.Stored.{nodes}
 use Rattle.store.specs.Recall.{Remembers}
 use Rattle.store.specs.declared.memo.Memo.{Memo}
@@ -22,11 +23,11 @@ use Rattle.pack.specs.Held.{reads-on}
 use Rattle.lift.specs.Lifts.{Lifts}
 use Rattle.copy.specs.Held.{Patterns}
 use Rattle.kept.specs.Variables.{VariablesBelow}
-use Rattle.needed.specs.Upto.{Upto, upto-same}
+use Rattle.needed.specs.Upto.{upto-same}
 use Rattle.keys.specs.Keyed.{keyed-work-on}
 use Rattle.keys.specs.declared.classes.Keying.{Keying}
 use Rattle.keys.specs.declared.classes.Counts.{Counts}
-use Rattle.premise.specs.Layout.{memoIn}
+use Rattle.premise.specs.Layout.{memoIn, laid-on, laid-words}
 use Rattle.premise.specs.declared.layout.Layout.{Layout}
 use Rattle.rows.specs.Words.{widthOf}
 use Rattle.rows.specs.Rows.{RowsIn, rows-then}
@@ -93,25 +94,13 @@ module _ (bytes work class words cells work′ class′ words′ : List ℕ) (c 
   pub standing-more : Standing bytes work′ class′ words′ cells c k l r st′ memo′ full P (builtWith b store′ x)
   standing-more =
       let same : Same work work′ c = upto-same (l .rows) work work′ c more-upto (omega (arith, S .keyed .keyable .behind, S .placed .behind)) in
-      let w = A .long in
       record {
         keyed =
             keyed-work-on bytes work work′ class class′ c k r (record { long = more-upto .long; words = λ i h. more-upto .words i (omega (arith, S .placed .behind)) }) (A .row .long)
             (λ i h. A .row .kept i (omega (arith, h, more-steps, length-steps bytes (recordsOf work c) P (S .reads)))) (S .keyed);
         reads = reads-on bytes work work′ c same (S .lifts .laid .held .cataloged) P (S .reads);
         proper = S .proper;
-        placed = record {
-          behind = S .placed .behind;
-          rows = S .placed .rows;
-          laid = record {
-            index = S .placed .laid .index;
-            memo = subst (λ (n : ℕ). l .copied + 2 * (n / 2) ≤ l .walk) (sym w) (S .placed .laid .memo);
-            stack = subst (λ (n : ℕ). l .walk + 2 * (n / 2) ≤ l .variables) (sym w) (S .placed .laid .stack);
-            variables = S .placed .laid .variables;
-            table = S .placed .laid .table;
-            inside = omega (arith, S .placed .laid .inside, A .ahead .long);
-          };
-        };
+        placed = record { behind = S .placed .behind; rows = S .placed .rows; laid = laid-on work work′ words′ cells l (A .ahead .long) (laid-words work words words′ cells l (A .long) (S .placed .laid)) };
         lifts = A .lifts;
         store = refl;
         patterns = A .patterns;

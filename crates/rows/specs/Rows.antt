@@ -1,16 +1,14 @@
 -- The rows of the classes that are made, in the class buffer, and where each starts, in work.
-use mathlib.Core.Path.{_≡_, refl, sym, ap, ap₂, _∙_, subst}
-use mathlib.Core.Bool.{Bool}
+use mathlib.Core.Path.{_≡_, refl, sym, ap, _∙_}
 use mathlib.Core.List.{List, [], _∷_, _++_, map}
 use Prim.Native.Nat.{ℕ, zero, suc, _+_, _-_, _≤_, _<_}
 use native.Mathlib.Omega.{arith}
 use native.Mathlib.Decide.{decLt}
-use lib.ListN.{length, getD, set, take, drop, length-append, length-map, length-drop, length-set, List·getD-append}
-use lib.Seq.{getD-at, getD-drop, getD-set-same, getD-set-other, take-append-seam, length-take-le}
+use lib.ListN.{length, getD, take, drop, length-append, length-map, List·getD-append}
+use lib.Seq.{getD-drop, getD-append-add, take-append-le, take-length}
 use Rattle.definition.specs.Keys.{Keyed, noKeyed}
 use Rattle.definition.specs.Classes.{Class, noClass, mark, rowWords}
-use Rattle.base.specs.Part.{part, put, part-at, part-is, part-same, length-part, put-before, put-at, length-put}
-use Rattle.base.specs.Outside.{Outside}
+use Rattle.base.specs.Part.{part, part-at, part-is, part-same}
 use Rattle.graph.specs.Cells.{markIn}
 use Rattle.premise.specs.Takes.{conclusionIn, countIn, flexIn}
 use Rattle.rows.specs.Words.{rowOf, widthOf, width, before, length-row, length-rows, width-more, rows-more, row-there, marks-back}
@@ -116,28 +114,15 @@ module _ (work work′ class class′ : List ℕ) (at start fill : ℕ) (cs : Li
         let d : ℕ = j - width cs in
         let e : start + j ≡ fill + d = omega (arith, R .filled, l) in
         let f : j ≡ length (rowWords cs ks) + d = omega (arith, many, l) in
-        ap (λ (m : ℕ). getD class′ m 0) e ∙ row d (omega (arith, width-more cs c, l)) ∙ sym (ap (λ (m : ℕ). getD (rowWords cs ks ++ new) m 0) f ∙ behind (rowWords cs ks) new d)
+        ap (λ (m : ℕ). getD class′ m 0) e ∙ row d (omega (arith, width-more cs c, l)) ∙ sym (ap (λ (m : ℕ). getD (rowWords cs ks ++ new) m 0) f ∙ getD-append-add (rowWords cs ks) new d 0)
   ]
-    where
-      behind : (xs ys : List ℕ) (n : ℕ) → getD (xs ++ ys) (length xs + n) 0 ≡ getD ys n 0
-      behind [] ys n = let e : 0 + n ≡ n = omega arith in ap (λ (m : ℕ). getD ys m 0) e
-      behind (x ∷ xs) ys n = let e : suc (length xs) + n ≡ suc (length xs + n) = omega arith in ap (λ (m : ℕ). getD (x ∷ (xs ++ ys)) m 0) e ∙ behind xs ys n
 
   -- an earlier row starts where it did
   before-kept : (i : ℕ) → i ≤ length cs → before (cs ++ (c ∷ [])) i ≡ before cs i
-  before-kept i h = ap width (take-front cs i h)
-    where
-      take-front : (ds : List Class) (n : ℕ) → n ≤ length ds → take n (ds ++ (c ∷ [])) ≡ take n ds
-      take-front ds zero l = refl
-      take-front [] (suc n) l = absurd (omega arith)
-      take-front (d ∷ ds) (suc n) l = ap (λ (xs : List Class). d ∷ xs) (take-front ds n (omega arith))
+  before-kept i h = ap width (take-append-le i cs (c ∷ []) h)
 
   before-all : before cs (length cs) ≡ width cs
-  before-all = ap width (take-all cs)
-    where
-      take-all : (ds : List Class) → take (length ds) ds ≡ ds
-      take-all [] = refl
-      take-all (d ∷ ds) = ap (λ (xs : List Class). d ∷ xs) (take-all ds)
+  before-all = ap width (take-length cs)
 
   pub rows-then : RowsIn work′ class′ at start (fill + widthOf c) (cs ++ (c ∷ [])) ks
   rows-then =

@@ -1,34 +1,32 @@
 -- What class building holds between one class and the next: the keys, the rows of the classes made, the store of their patterns.
-use mathlib.Core.Path.{_≡_, refl, sym, ap, _∙_, subst}
+use mathlib.Core.Path.{_≡_, refl, sym, subst}
 use mathlib.Core.List.{List}
-use Prim.Native.Nat.{ℕ, _+_, _*_, _-_, _≤_, _<_}
+use Prim.Native.Nat.{ℕ, _+_, _-_, _≤_, _<_}
 use native.Mathlib.Omega.{arith}
 use lib.ListN.{length, getD}
 use Rattle.definition.specs.Pack.{Pack}
 use Rattle.definition.specs.Keys.{keyed as keysOf}
 use Rattle.definition.specs.Classes.{Class, noClass, Built}
-use Rattle.base.specs.Part.{part-same}
-use Rattle.base.specs.Outside.{Outside}
-use Rattle.store.specs.Stored.{Stored, nodes}
+use Rattle.base.specs.Upto.{Upto}
+use Rattle.store.specs.Stored.{nodes}
 use Rattle.store.specs.Recall.{Remembers}
 use Rattle.store.specs.declared.memo.Memo.{Memo}
 use Rattle.store.specs.declared.nodes.Store.{Store}
 use Rattle.catalog.specs.Whole.{recordsOf}
 use Rattle.catalog.specs.Same.{Same, endOf as tablesEnd}
 use Rattle.catalog.specs.declared.whole.Catalog.{Catalog}
-use Rattle.certificate.specs.Marks.{marksAt}
 use Rattle.pack.specs.Reads.{Reads, length-steps}
 use Rattle.pack.specs.Held.{Proper, Held, reads-on}
 use Rattle.lift.specs.Lifts.{Lifts}
 use Rattle.lift.specs.declared.walk.Lifted.{Lifted}
 use Rattle.copy.specs.Held.{Patterns}
 use Rattle.kept.specs.Variables.{VariablesBelow}
-use Rattle.needed.specs.Upto.{Upto, upto-outside, upto-same}
+use Rattle.needed.specs.Upto.{upto-same}
 use Rattle.keys.specs.Words.{endOf}
 use Rattle.keys.specs.Keyed.{KeyedIn, KeyedWork, keyed-work-on}
 use Rattle.keys.specs.declared.classes.Keying.{Keying}
 use Rattle.keys.specs.declared.classes.Counts.{Counts}
-use Rattle.premise.specs.Layout.{indexIn, memoIn, Laid}
+use Rattle.premise.specs.Layout.{memoIn, Laid, laid-on, laid-cells}
 use Rattle.premise.specs.declared.layout.Layout.{Layout}
 use Rattle.root.specs.Kept.{lifts-on}
 use Rattle.rows.specs.Rows.{RowsIn, rows-on}
@@ -95,18 +93,7 @@ module _ (bytes work class words cells : List ℕ) (c : Catalog) (k : Keying) (l
           keyed-work-on bytes work work′ class class c k r (record { long = U .long; words = λ i h. U .words i (omega (arith, S .placed .behind, S .placed .rows, S .placed .laid .index)) }) refl (λ i h. refl) (S .keyed);
       reads = standing-reads;
       proper = S .proper;
-      placed = record {
-        behind = S .placed .behind;
-        rows = S .placed .rows;
-        laid = record {
-          index = S .placed .laid .index;
-          memo = S .placed .laid .memo;
-          stack = S .placed .laid .stack;
-          variables = S .placed .laid .variables;
-          table = S .placed .laid .table;
-          inside = omega (arith, S .placed .laid .inside, U .long);
-        };
-      };
+      placed = record { behind = S .placed .behind; rows = S .placed .rows; laid = laid-on work work′ words cells l (U .long) (S .placed .laid) };
       lifts = lifts-on bytes work words c (liftedOf l) st work′ (U .long) (λ i h. U .words i h) (S .lifts);
       store = S .store;
       patterns = S .patterns;
@@ -124,18 +111,7 @@ standing-cells bytes work class words cells cells′ c k l r st memo fill P b e 
   keyed = S .keyed;
   reads = S .reads;
   proper = S .proper;
-  placed = record {
-    behind = S .placed .behind;
-    rows = S .placed .rows;
-    laid = record {
-      index = S .placed .laid .index;
-      memo = S .placed .laid .memo;
-      stack = S .placed .laid .stack;
-      variables = omega (arith, S .placed .laid .variables);
-      table = omega (arith, S .placed .laid .table);
-      inside = S .placed .laid .inside;
-    };
-  };
+  placed = record { behind = S .placed .behind; rows = S .placed .rows; laid = laid-cells work words cells cells′ l e (S .placed .laid) };
   lifts = S .lifts;
   store = S .store;
   patterns = S .patterns;

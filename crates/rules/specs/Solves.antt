@@ -1,46 +1,42 @@
 -- A rule's variables opened and its premises solved: what the definition's run comes to behind the values.
-use mathlib.Core.Path.{_≡_, refl, sym, ap, ap₂, _∙_, subst}
-use mathlib.Core.Bool.{Bool, true, false}
-use mathlib.Core.List.{List, [], _∷_, map}
-use mathlib.Core.Option.{none, some}
-use Prim.Native.Nat.{ℕ, zero, suc, _+_, _*_, _-_, _≤_, _<_}
+use mathlib.Core.Path.{_≡_, refl, sym, _∙_, subst}
+use mathlib.Core.Bool.{true, false}
+use mathlib.Core.List.{List}
+use mathlib.Core.Option.{none}
+use Prim.Native.Nat.{ℕ, _+_, _-_, _≤_, _<_}
 use native.Mathlib.Omega.{arith}
-use lib.ListN.{length, getD}
-use Rattle.definition.specs.Pack.{nil, Pack, ruleOf, stepOf}
-use Rattle.definition.specs.Certificate.{count}
-use Rattle.definition.specs.Good.{Below}
+use lib.ListN.{length}
+use Rattle.definition.specs.Pack.{Pack, ruleOf}
 use Rattle.definition.specs.Frame.{fine, refuse}
 use Rattle.definition.specs.Answer.{Lent}
 use Rattle.definition.specs.Run.{outcome}
 use Rattle.definition.specs.Keys.{keyed as keysOf}
 use Rattle.definition.specs.Graph.{Graph, upTo, cells as cellsOf, circular}
 use Rattle.definition.specs.Classes.{Built, Premises}
-use Rattle.definition.specs.Laws.Prefix.{termsWords}
 use Rattle.definition.specs.declared.Refusal.{Refusal}
 use Rattle.definition.specs.declared.Refusal.the-variants.{Clash as Clashes, Circle as Circles, Instance, Short as TooShort}
 use Rattle.theory.specs.Copies.Variables.{length-of}
 use Rattle.base.specs.Part.{part}
-use Rattle.base.specs.Outside.{Outside, outside-then, outside-wider, part-ahead, part-behind}
+use Rattle.base.specs.Outside.{Outside, outside-then, outside-wider, part-ahead}
+use Rattle.base.specs.Upto.{upto-outside}
 use Rattle.store.specs.Recall.{Remembers}
 use Rattle.store.specs.declared.memo.Memo.{Memo}
 use Rattle.store.specs.declared.nodes.Store.{Store}
 use Rattle.catalog.specs.declared.whole.Catalog.{Catalog}
 use Rattle.graph.specs.declared.graph.Graph.{Graph as Counts}
-use Rattle.graph.specs.Cells.{rowsEnd, Shows}
+use Rattle.graph.specs.Cells.{rowsEnd}
 use Rattle.graph.specs.Pushes.{cells-shown}
 use Rattle.chains.specs.Head.{premises-spelt}
 use Rattle.instantiate.specs.Variables.{variablesOf, Opening, Opens}
 use Rattle.instantiate.specs.declared.variables.Opened.the-variants as opened
 use Rattle.keys.specs.declared.classes.Keying.{Keying}
 use Rattle.keys.specs.declared.classes.Counts.{Counts as KeyCounts}
-use Rattle.needed.specs.Upto.{upto-outside}
 use Rattle.kept.specs.FewArgs.{few-variables}
 use Rattle.premise.specs.Layout.{placeOf, memoIn, tableIn}
 use Rattle.premise.specs.declared.layout.Layout.{Layout}
 use Rattle.premises.specs.declared.premises.Ruling.{Ruling}
 use Rattle.premises.specs.declared.premises.Premised.the-variants as premised
 use Rattle.premises.specs.Given.{Ruled, refsOf, takes}
-use Rattle.premises.specs.Next.{Here}
 use Rattle.premises.specs.All.{start, allOf, Begun, Starting, TakesAll}
 use Rattle.rows.specs.Standing.{Standing, standing-held, standing-behind, standing-on, standing-cells}
 use Rattle.rules.specs.declared.solve.Solved.{Solved}

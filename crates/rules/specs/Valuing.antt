@@ -1,12 +1,12 @@
 -- The unified premises tested: no circle, and the refs' judgments together an instance.
 use mathlib.Core.Path.{_≡_, refl, sym, ap, ap₂, _∙_, subst}
-use mathlib.Core.Bool.{Bool, true, false}
+use mathlib.Core.Bool.{true, false}
 use mathlib.Core.List.{List, [], _∷_, _++_, map}
 use mathlib.Core.Option.{none, some}
 use Prim.Native.Nat.{ℕ, zero, suc, _+_, _*_, _-_, _≤_, _<_}
 use native.Mathlib.Omega.{arith}
 use native.Mathlib.Decide.{decLt}
-use lib.ListN.{length, getD, take, drop, length-map}
+use lib.ListN.{length, getD, take}
 use lib.Seq.{take-length}
 use Rattle.definition.specs.Pack.{nil, Pack, ruleOf, stepOf}
 use Rattle.definition.specs.Certificate.{count}
@@ -14,32 +14,30 @@ use Rattle.definition.specs.Good.{Below, Good}
 use Rattle.definition.specs.Laws.Grow.{below-at}
 use Rattle.definition.specs.Verdict.{Bound}
 use Rattle.definition.specs.Keys.{firstOf}
-use Rattle.definition.specs.Graph.{Graph, circular}
+use Rattle.definition.specs.Graph.{circular}
 use Rattle.definition.specs.Analysis.{valued}
 use Rattle.definition.specs.Classes.{Built, Premises}
 use Rattle.theory.specs.Keys.Needed.{first-judgment}
 use Rattle.base.specs.Part.{part, put, part-at, length-part, part-put, length-put, put-before, put-at, put-behind}
 use Rattle.base.specs.Outside.{Outside, outside-then, outside-wider, part-ahead, part-behind}
+use Rattle.base.specs.Upto.{upto-outside}
 use Rattle.store.specs.Recall.{Remembers}
 use Rattle.store.specs.declared.memo.Memo.{Memo}
 use Rattle.store.specs.declared.nodes.Store.{Store}
 use Rattle.catalog.specs.Whole.{recordsOf}
 use Rattle.catalog.specs.declared.whole.Catalog.{Catalog}
 use Rattle.pack.specs.Reads.{length-steps}
-use Rattle.pack.specs.Held.{Held}
 use Rattle.graph.specs.declared.graph.Graph.{Graph as Counts}
-use Rattle.graph.specs.Cells.{rowsEnd, nodes-few, Shows, Unchanged}
-use Rattle.graph.specs.Inner.{Inner, HoldsInner}
+use Rattle.graph.specs.Cells.{nodes-few, Shows, Unchanged}
+use Rattle.graph.specs.Inner.{HoldsInner}
 use Rattle.circle.specs.Circles.{Tells}
-use Rattle.circle.specs.Words.{coloursEnd, TellsIn}
+use Rattle.circle.specs.Words.{coloursEnd}
 use Rattle.fix.specs.Words.{Stands, Framed}
 use Rattle.fix.specs.declared.words.Valued.{Valued}
-use Rattle.fix.specs.declared.walk.Fixed.{Fixed}
 use Rattle.fix.specs.declared.walk.Fixed.the-variants.{Done, Differs as Unlike}
 use Rattle.keys.specs.declared.classes.Keying.{Keying}
 use Rattle.keys.specs.declared.classes.Counts.{Counts as KeyCounts}
-use Rattle.needed.specs.Upto.{upto-outside}
-use Rattle.premise.specs.Layout.{memoIn, tableIn, copiesAt}
+use Rattle.premise.specs.Layout.{tableIn, copiesAt}
 use Rattle.premise.specs.Joins.{copiesIn}
 use Rattle.premise.specs.declared.layout.Layout.{Layout}
 use Rattle.premises.specs.declared.premises.Ruling.{Ruling}
@@ -47,7 +45,6 @@ use Rattle.premises.specs.Given.{refsOf}
 use Rattle.premises.specs.Next.{Here}
 use Rattle.premises.specs.All.{judged}
 use Rattle.rows.specs.Standing.{Standing, standing-held, standing-behind, standing-on}
-use Rattle.values.specs.One.{judgmentOf}
 use Rattle.values.specs.All.{judgmentsTo, Starting, GivesAll}
 use Rattle.kept.specs.Values.{Grounded, valued-grounded}
 use Rattle.kept.specs.Firsts.{firsts-given, judgments-given}

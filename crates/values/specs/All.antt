@@ -1,13 +1,12 @@
 -- All premises' instances against the judgments of the refs.
-use mathlib.Core.Path.{_≡_, refl, sym, ap, ap₂, _∙_, subst}
+use mathlib.Core.Path.{_≡_, refl, sym, ap, ap₂, _∙_}
 use mathlib.Core.Bool.{false}
 use mathlib.Core.List.{List, [], _∷_, _++_, append-assoc, append-nil}
 use mathlib.Core.Option.{none, some}
 use Prim.Native.Nat.{ℕ, zero, suc, _+_, _-_, _≤_, _<_}
 use native.Mathlib.Omega.{arith}
-use native.Mathlib.Numerals.{add-one}
-use lib.ListN.{length, getD, take, drop, length-append, length-drop, take-append-drop}
-use lib.Seq.{take-suc, length-take-le, getD-take}
+use lib.ListN.{length, getD, take, drop, length-append, take-append-drop}
+use lib.Seq.{take-suc, take-take, length-take-le, getD-take}
 use Rattle.definition.specs.Pack.{Pack, stepOf}
 use Rattle.definition.specs.Good.{Below}
 use Rattle.definition.specs.Laws.Grow.{below-at}
@@ -18,12 +17,12 @@ use Rattle.catalog.specs.Whole.{recordsOf}
 use Rattle.catalog.specs.Same.{endOf, Same, same-records}
 use Rattle.catalog.specs.declared.whole.Catalog.{Catalog}
 use Rattle.pack.specs.Reads.{Reads, length-steps}
-use Rattle.pack.specs.Held.{Proper, Held, OfHeld, held-on, reads-on}
+use Rattle.pack.specs.Held.{Held, OfHeld, held-on, reads-on}
 use Rattle.theory.specs.Walks.Levels.{Inner}
 use Rattle.graph.specs.declared.graph.Graph.{Graph as Counts}
 use Rattle.graph.specs.Cells.{Shows}
 use Rattle.graph.specs.Inner.{many-nodes}
-use Rattle.fix.specs.Words.{tableIn, Stands, Placed, Framed, Values, framed-none, framed-then, framed-same, placed-on}
+use Rattle.fix.specs.Words.{tableIn, Stands, Placed, Framed, framed-none, framed-then, framed-same, placed-on}
 use Rattle.fix.specs.Stores.{Clears}
 use Rattle.fix.specs.declared.words.Valued.{Valued}
 use Rattle.fix.specs.declared.walk.Fixed.{Fixed}
@@ -40,12 +39,6 @@ length-judgments : (P : Pack) (step i : ℕ) → length (judgmentsTo P step i) �
 unfolding judgmentsTo
 length-judgments P step zero = refl
 length-judgments P step (suc i) = length-append (judgmentsTo P step i) (judgmentOf P step i ∷ []) ∙ omega (arith, length-judgments P step i)
-
-take-take : (xs : List ℕ) (m j : ℕ) → j < m → take (suc j) (take m xs) ≡ take (suc j) xs
-take-take xs zero j h = absurd (omega arith)
-take-take [] (suc m) j h = refl
-take-take (x ∷ xs) (suc m) zero h = refl
-take-take (x ∷ xs) (suc m) (suc j) h = ap (λ (ys : List ℕ). x ∷ ys) (take-take xs m j (omega arith))
 
 -- what is asked: a graph without circles, instances among its nodes, and a step with as many refs
 pub record Starting (bytes work cells : List ℕ) (c : Catalog) (v : Valued) (g : Counts) (step n : ℕ) (instances : List ℕ) : Type 0 where
@@ -159,7 +152,7 @@ module _ (bytes before cells : List ℕ) (c : Catalog) (v : Valued) (g : Counts)
 
     -- what is left of the instances and judgments
     instances-rest : take n instances ≡ take (suc i) instances ++ drop (suc i) (take n instances)
-    instances-rest = sym (take-append-drop (suc i) (take n instances)) ∙ ap (λ (xs : List ℕ). xs ++ drop (suc i) (take n instances)) (take-take instances n i more)
+    instances-rest = sym (take-append-drop (suc i) (take n instances)) ∙ ap (λ (xs : List ℕ). xs ++ drop (suc i) (take n instances)) (take-take (suc i) n instances (omega arith))
 
     judgments-rest : (P : Pack) (k : ℕ) → (rest : List ℕ) × (judgmentsTo P step (suc i + k) ≡ judgmentsTo P step (suc i) ++ rest)
     unfolding judgmentsTo

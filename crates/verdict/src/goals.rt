@@ -2,10 +2,7 @@
 use crate::failing::Failing;
 use catalog::region::Sought;
 use catalog::whole::Catalog;
-use pack::goal::goal_judgment;
-use pack::goal::goal_result;
-use pack::goal::result_step;
-use pack::step::step_judgment;
+use pack::goal::goal_step;
 ghost use mathlib.Core.Path.{_≡_};
 ghost use Prim.Native.Nat.{_<_};
 ghost use lib.ListN.{length, getD};
@@ -18,11 +15,8 @@ fn goal_is_met(pack: &[u8], work: &[u32], c: Catalog, g: usize) -> bool
     requires { ⌜ ((H : Held (now pack) (now work) c) × (g < length (H .pack .goals))) ⌝ }
     ensures { λ r. ⌜ OfHeld (now (pack .entry)) (now (work .entry)) c (λ P. r ≡ met P (getD (P .goals) g noGoal)) ⌝ }
 {
-    match goal_result(pack, work, c, g) {
-        Sought::At(i) => {
-            let s = result_step(pack, work, c, i) as usize;
-            step_judgment(pack, work, c, s) == goal_judgment(pack, work, c, g)
-        }
+    match goal_step(pack, work, c, g) {
+        Sought::At(_) => true,
         Sought::Nowhere => false,
     }
 }

@@ -47,7 +47,7 @@ by-name name (r ∷ rs) (suc i) h e = elim (see (same name (r .name))) [
 ]
 
 -- names are given once: it is the result in question
-result-named : (P : Pack) → Once P → (name : List ℕ) (i : ℕ) → i < length (P .results) → name ≡ getD (P .results) i noResult .name → resultOf name (P .results) ≡ some (getD (P .results) i noResult)
+pub result-named : (P : Pack) → Once P → (name : List ℕ) (i : ℕ) → i < length (P .results) → name ≡ getD (P .results) i noResult .name → resultOf name (P .results) ≡ some (getD (P .results) i noResult)
 result-named P O name i h e =
     let q = by-name name (P .results) i h e in
     let n : q .at ≡ i = O .results (q .at) i (q .within) h (sym (q .named) ∙ e) in
@@ -60,7 +60,7 @@ among-map f (r ∷ rs) zero h = among-here (f r) (map f rs)
 among-map f (r ∷ rs) (suc i) h = among-there (f (getD rs i noResult)) (f r) (map f rs) (among-map f rs i (omega arith))
 
 -- the first step of a result's judgment is needed
-result-needed : (P : Pack) → Good P → (i : ℕ) → i < length (P .results) → Among (firstOf P (getD (P .results) i noResult .step)) (needed P)
+pub result-needed : (P : Pack) → Good P → (i : ℕ) → i < length (P .results) → Among (firstOf P (getD (P .results) i noResult .step)) (needed P)
 unfolding needed
 result-needed P G i h =
     let s = getD (P .results) i noResult .step in

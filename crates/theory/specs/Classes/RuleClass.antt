@@ -3,7 +3,7 @@ use mathlib.Core.Path.{_≡_, refl, sym, ap, ap₂, _∙_, subst}
 use mathlib.Core.Bool.{Bool, true, false, not}
 use mathlib.Core.List.{List, [], _∷_, _++_, map}
 use mathlib.Core.Option.{Option, some}
-use Prim.Native.Nat.{ℕ, zero, suc, _<_}
+use Prim.Native.Nat.{ℕ, suc, _<_}
 use native.Mathlib.Omega.{arith}
 use lib.ListN.{length, getD}
 use Rattle.definition.specs.Test.{never, all}
@@ -23,7 +23,7 @@ use Rattle.definition.specs.declared.Refusal.{Refusal}
 use Rattle.theory.specs.Derive.{InstanceOf, Fits, Derivation, leaf, by, Shape, Shapes}
 use Rattle.theory.specs.Classes.Steps.{AllJudged, refs-judged}
 use Rattle.theory.specs.Keys.Needed.{first-earlier}
-use Rattle.theory.specs.Keys.Keyed.{firsts-below}
+use Rattle.theory.specs.Keys.Keyed.{getD-any, firsts-below}
 use Rattle.theory.specs.Keys.KeyedLaws.{keyed-kept}
 use Rattle.theory.specs.Unification.Solve.{treesAt}
 use Rattle.theory.specs.Copies.Push.{Extends}
@@ -49,12 +49,6 @@ key-rule P words s c = rw (c, keyOf)
 
 key-parts : {r q : ℕ} {cs ds : List ℕ} → ruleKey r cs ≡ ruleKey q ds → (r ≡ q) × (cs ≡ ds)
 key-parts e = (cc, cc)
-
--- a place of a list has one element, whatever stands for none
-getD-any : (xs : List ℕ) (i d e : ℕ) → i < length xs → getD xs i d ≡ getD xs i e
-getD-any [] i d e h = absurd (omega arith)
-getD-any (x ∷ xs) zero d e h = refl
-getD-any (x ∷ xs) (suc i) d e h = getD-any xs i d e (omega arith)
 
 -- the classes in a key are those of the refs
 key-classes : (P : Pack) (words : List ℕ) → length words ≡ length (P .steps) → (refs : List ℕ) → Below (length (P .steps)) refs → map (λ r. getD words (firstOf P r) nothing) refs ≡ classesOf P words refs

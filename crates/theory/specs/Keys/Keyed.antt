@@ -51,6 +51,12 @@ class-none k (x ∷ xs) c (suc i) e h q = elim (see (sameKey (x .key) k)) [
   | is false p ↦ class-none k xs (suc c) i (rw (p, classIn) at e) (omega arith) q
 ]
 
+-- a place of a list has one element, whatever stands for none
+pub getD-any : (xs : List ℕ) (i d e : ℕ) → i < length xs → getD xs i d ≡ getD xs i e
+getD-any [] i d e h = absurd (omega arith)
+getD-any (x ∷ xs) zero d e h = refl
+getD-any (x ∷ xs) (suc i) d e h = getD-any xs i d e (omega arith)
+
 -- classes of refs, when all of them have their words
 refs-kept : (P : Pack) (ws more : List ℕ) (refs : List ℕ) → Below (length ws) (map (firstOf P) refs)
     → map (λ r. getD (ws ++ more) (firstOf P r) nothing) refs ≡ map (λ r. getD ws (firstOf P r) nothing) refs

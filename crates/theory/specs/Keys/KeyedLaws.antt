@@ -57,7 +57,8 @@ key-set xs c d h = elim (see (eqb d c)) [
   | is false p ↦ ap (λ (x : Keyed). x .key) (getD-set-other xs c d (oneMore (getD xs c noKeyed)) noKeyed (eqb-false d c p))
 ]
 
-first-set : (xs : List Keyed) (c d : ℕ) → c < length xs → getD (set xs c (oneMore (getD xs c noKeyed))) d noKeyed .first ≡ getD xs d noKeyed .first
+-- and so does its first step
+pub first-set : (xs : List Keyed) (c d : ℕ) → c < length xs → getD (set xs c (oneMore (getD xs c noKeyed))) d noKeyed .first ≡ getD xs d noKeyed .first
 first-set xs c d h = elim (see (eqb d c)) [
   | is true p ↦
       let e = eqb-true d c p in
@@ -73,6 +74,15 @@ count-in wanted n h = count-append (λ s. any (eqb s) wanted) (upTo n) (n ∷ []
 pub count-out : (wanted : List ℕ) (n : ℕ) → any (eqb n) wanted ≡ false → countOf (λ s. any (eqb s) wanted) (upTo (suc n)) ≡ countOf (λ s. any (eqb s) wanted) (upTo n)
 unfolding upTo countOf
 count-out wanted n h = count-append (λ s. any (eqb s) wanted) (upTo n) (n ∷ []) ∙ rw (h, countOf) (omega arith)
+
+-- steps, and then more of them
+pub steps-then : (P : Pack) (wanted xs ys : List ℕ) (k : Keys) → keySteps P wanted (xs ++ ys) k ≡ keySteps P wanted ys (keySteps P wanted xs k)
+unfolding keySteps
+steps-then P wanted [] ys k = refl
+steps-then P wanted (x ∷ xs) ys k = elim (see (any (eqb x) wanted)) [
+  | is true p ↦ rw (p, keySteps) (steps-then P wanted xs ys (keyStep P x k))
+  | is false p ↦ rw (p, keySteps) (steps-then P wanted xs ys (record { words = k .words ++ (nothing ∷ []); classes = k .classes }))
+]
 
 module _ (P : Pack) (G : Good P) (wanted : List ℕ) where
   -- an earlier step's key is the same with one word more
@@ -259,15 +269,6 @@ module _ (P : Pack) (G : Good P) (wanted : List ℕ) where
     ]
   ]
 
-  -- steps, and then more of them
-  steps-then : (xs ys : List ℕ) (k : Keys) → keySteps P wanted (xs ++ ys) k ≡ keySteps P wanted ys (keySteps P wanted xs k)
-  unfolding keySteps
-  steps-then [] ys k = refl
-  steps-then (x ∷ xs) ys k = elim (see (any (eqb x) wanted)) [
-    | is true p ↦ rw (p, keySteps) (steps-then xs ys (keyStep P x k))
-    | is false p ↦ rw (p, keySteps) (steps-then xs ys (record { words = k .words ++ (nothing ∷ []); classes = k .classes }))
-  ]
-
   -- the first n steps
   pub kept-upTo : (n : ℕ) → n ≤ length (P .steps)
       → Kept P wanted (keySteps P wanted (upTo n) (record { words = []; classes = [] })) × (length (keySteps P wanted (upTo n) (record { words = []; classes = [] }) .words) ≡ n)
@@ -277,7 +278,7 @@ module _ (P : Pack) (G : Good P) (wanted : List ℕ) where
   kept-upTo (suc n) h =
       let k = keySteps P wanted (upTo n) (record { words = []; classes = [] }) in
       let K = kept-upTo n (omega arith) in
-      let e = steps-then (upTo n) (n ∷ []) (record { words = []; classes = [] }) in
+      let e = steps-then P wanted (upTo n) (n ∷ []) (record { words = []; classes = [] }) in
       let S = kept-step k (K .0) (omega (arith, K .1)) in
       let one = ap (λ (i : ℕ). keySteps P wanted (i ∷ []) k) (K .1) in
       (subst (Kept P wanted) (one ∙ sym e) S, ap (λ (q : Keys). length (q .words)) e ∙ step-word k n ∙ ap suc (K .1))

@@ -62,7 +62,8 @@ count-lt f g (x ∷ xs) y h a p q = elim (see (eqb y x)) [
   rest : eqb y x ≡ false → Among y xs
   rest e = elim (among-side y (x ∷ []) xs a) [ on-left l ↦ never (let z : true ≡ false = sym (eq-eqb y x (among-one y x l)) ∙ e in cc) | on-right r ↦ r ]
 
-count-most : (f : ℕ → Bool) (xs : List ℕ) → countOf f xs ≤ length xs
+-- no more than there are
+pub count-most : {A : Type 0} (f : A → Bool) (xs : List A) → countOf f xs ≤ length xs
 unfolding countOf
 count-most f [] = omega arith
 count-most f (x ∷ xs) = elim (see (f x)) [
@@ -74,6 +75,9 @@ pub length-upTo : (n : ℕ) → length (upTo n) ≡ n
 unfolding upTo
 length-upTo zero = refl
 length-upTo (suc n) = let i = length-upTo n in let l = length-append (upTo n) (n ∷ []) in omega arith
+
+pub count-below : (f : ℕ → Bool) (n : ℕ) → countOf f (upTo n) ≤ n
+count-below f n = let c = count-most f (upTo n) in let l = length-upTo n in omega arith
 
 pub upTo-all : (n x : ℕ) → x < n → Among x (upTo n)
 unfolding upTo
@@ -150,7 +154,7 @@ pub solved-acyclic : (θ : ℕ → Tree) (P : Pack) (g : Graph) → Formed P g �
 unfolding circular rank
 solved-acyclic θ P g F S =
     let n = length g in
-    let most : (x : ℕ) → rank θ g x ≤ n = λ x. let c = count-most (λ z. ltb (size (θ z)) (size (θ x))) (upTo n) in let l = length-upTo n in omega arith in
+    let most : (x : ℕ) → rank θ g x ≤ n = λ x. count-below (λ z. ltb (size (θ z)) (size (θ x))) n in
     rw (all-upTo (λ x. ends (suc n) g x) n (λ x h. solved-ends θ P g F S (suc n) x h (let m = most x in omega arith)))
 
 -- what is not circular ends everywhere

@@ -1,9 +1,9 @@
 -- `goal_step` meets its contract: the result of the goal's name has its judgment, or another, or there is none.
 use borrow.Author.Needs.{needs}
 use Rattle.pack.specs.Held.{readable}
-use Rattle.goals.specs.One.{step-none, result-recorded, step-recorded, step-same, step-other}
-use Rattle.goals.proofs.one.goal_step.Statement.{statement}
-use Rattle.goals.proofs.one.goal_step.Tie as tie
+use Rattle.pack.specs.Goals.{step-none, result-recorded, step-recorded, step-same, step-other}
+use Rattle.pack.proofs.goal.goal_step.Statement.{statement}
+use Rattle.pack.proofs.goal.goal_step.Tie as tie
 
 goal-result-requires : tie.Need-goal-result-requires
 goal-result-requires c κs = let p = c .before .before .pre in (readable _ _ _ (p .0), p .1)
