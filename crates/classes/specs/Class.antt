@@ -5,7 +5,6 @@ use mathlib.Core.List.{List}
 use Prim.Native.Nat.{ℕ, _+_, _-_, _≤_, _<_}
 use native.Mathlib.Omega.{arith}
 use lib.ListN.{length, getD, take, drop}
-use lib.Seq.{ext-getD, length-take-le, getD-take}
 use Rattle.definition.specs.Pack.{Pack, ruleOf, stepOf}
 use Rattle.definition.specs.Certificate.{count}
 use Rattle.definition.specs.Keys.{noKeyed, predicateOf, isCut, keyed as keysOf}
@@ -17,7 +16,6 @@ use Rattle.definition.specs.Run.{Run, outcome}
 use Rattle.definition.specs.declared.Refusal.{Refusal as Reason}
 use Rattle.definition.specs.declared.Refusal.the-variants as refusal
 use Rattle.theory.specs.Unification.Circle.{length-upTo}
-use Rattle.theory.specs.Copies.Variables.{upTo-at}
 use Rattle.base.specs.Outside.{Outside, outside-wider}
 use Rattle.store.specs.Stored.{nodes, written}
 use Rattle.store.specs.declared.memo.Memo.{Memo}
@@ -28,6 +26,7 @@ use Rattle.certificate.specs.Marks.{Marks}
 use Rattle.pack.specs.Reads.{length-rules, length-steps}
 use Rattle.pack.specs.Says.{Readable, OfPack}
 use Rattle.pack.specs.Held.{Held, OfHeld}
+use Rattle.instantiate.specs.Count.{up-lent, up-first}
 use Rattle.kept.specs.Firsts.{firstStep, first-given, first-made, cut-made, rule-made, predicate-given}
 use Rattle.keys.specs.Words.{firstIn}
 use Rattle.keys.specs.Keyed.{keyed-room}
@@ -97,16 +96,6 @@ module _ (bytes work : List ℕ) (c : Catalog) (H : Held bytes work c) (s : ℕ)
   ruling-recorded =
       let P = H .pack in
       omega (arith, R P (H .reads), length-rules bytes (recordsOf work c) P (H .reads), H .proper .good .steps s (omega (arith, h, length-steps bytes (recordsOf work c) P (H .reads))) .rule)
-
--- ---- the environment as it is lent
-up-lent : (n : ℕ) → n ≤ 64 → take (n - 0) (drop 0 (upTo 64)) ≡ upTo n
-up-lent n h =
-    let e : n - 0 ≡ n = omega arith in
-    let l = length-take-le n (upTo 64) (omega (arith, length-upTo 64)) in
-    ap (λ (m : ℕ). take m (upTo 64)) e
-    ∙ ext-getD 0 (take n (upTo 64)) (upTo n) (l ∙ sym (length-upTo n)) (λ j p.
-    let q : j < n = omega (arith, p, l) in
-    getD-take n (upTo 64) j 0 q ∙ upTo-at 64 j (omega arith) ∙ sym (upTo-at n j q))
 
 module _ (bytes work class words cells : List ℕ) (c : Catalog) (k : Keying) (l : Layout) (st : Store) (memo : Memo) (fill i : ℕ) where
   -- ---- of one pack and what is built of it
@@ -280,7 +269,7 @@ module _ (bytes work class words cells : List ℕ) (c : Catalog) (k : Keying) (l
             pack = K .pack;
             built = K .built;
             asks = asks-rule (K .counts) (K .pack) (K .built) (K .asks);
-            env-is = ap (λ (xs : List ℕ). take (u .vars - 0) (drop 0 xs)) (K .env-is) ∙ up-lent (u .vars) (making-few .0);
+            env-is = ap (λ (xs : List ℕ). take (u .vars - 0) (drop 0 xs)) (K .env-is) ∙ up-lent (upTo 64) (u .vars) (up-first 64 (u .vars) (making-few .0));
             room = omega (arith, making-few .1, K .room);
             small-cells = K .small-cells;
             small = K .small;
