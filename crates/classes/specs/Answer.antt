@@ -11,12 +11,12 @@ use Rattle.classes.specs.declared.answer.ClassMade.{ClassMade}
 use Rattle.classes.specs.declared.answer.ClassMade.the-variants.{Made, Refused}
 
 -- what figures count of a cut class
-abbrev pub nothing : Counted
-nothing = record { vars = 0; flex = 0; fixed = 0; entries = 0; renamings = 0 }
+abbrev pub uncounted : Counted
+uncounted = record { vars = 0; flex = 0; fixed = 0; entries = 0; renamings = 0 }
 
 -- a cut class
 abbrev pub ofCut : CutMade → Memo → ClassMade
-ofCut (cut.Made st fill) memo = Made st memo fill nothing
+ofCut (cut.Made st fill) memo = Made st memo fill uncounted
 ofCut cut.ShortPatterns memo = Refused (refusal.Short 2)
 ofCut cut.ShortRows memo = Refused (refusal.Short 1)
 

@@ -11,7 +11,6 @@ use Rattle.definition.specs.Keys.{noKeyed, predicateOf, isCut, keyed as keysOf}
 use Rattle.definition.specs.Graph.{upTo}
 use Rattle.definition.specs.Classes.{Built, makeCut, makeClass}
 use Rattle.definition.specs.Figures.{classVars, flexVars}
-use Rattle.definition.specs.Answer.{Lent}
 use Rattle.definition.specs.Run.{Run, outcome}
 use Rattle.definition.specs.declared.Refusal.{Refusal as Reason}
 use Rattle.definition.specs.declared.Refusal.the-variants as refusal
@@ -24,7 +23,7 @@ use Rattle.catalog.specs.Whole.{recordsOf}
 use Rattle.catalog.specs.declared.whole.Catalog.{Catalog}
 use Rattle.certificate.specs.Marks.{Marks}
 use Rattle.pack.specs.Reads.{length-rules, length-steps}
-use Rattle.pack.specs.Says.{Readable, OfPack}
+use Rattle.pack.specs.Says.{OfPack}
 use Rattle.pack.specs.Held.{Held, OfHeld}
 use Rattle.instantiate.specs.Count.{up-lent, up-first}
 use Rattle.kept.specs.Firsts.{firstStep, first-given, first-made, cut-made, rule-made, predicate-given}
@@ -33,7 +32,6 @@ use Rattle.keys.specs.Keyed.{keyed-room}
 use Rattle.keys.specs.declared.classes.Keying.{Keying}
 use Rattle.keys.specs.declared.classes.Counts.{Counts as KeyCounts}
 use Rattle.premise.specs.declared.layout.Layout.{Layout}
-use Rattle.premises.specs.Given.{Ruled}
 use Rattle.premises.specs.declared.premises.Ruling.{Ruling}
 use Rattle.rows.specs.Standing.{Standing, standing-held, standing-keyed}
 use Rattle.cut.specs.Making as cuts
@@ -43,7 +41,7 @@ use Rattle.derive.specs.Done.{Done, Refused as RefusedRun}
 use Rattle.derive.specs.Making as rules
 use Rattle.derive.specs.declared.make.RuleMade.{RuleMade}
 use Rattle.derive.specs.declared.make.RuleMade.the-variants as rule
-use Rattle.classes.specs.Answer.{nothing, ofCut, ofRule}
+use Rattle.classes.specs.Answer.{ofCut, ofRule}
 use Rattle.classes.specs.declared.answer.ClassMade.{ClassMade}
 use Rattle.classes.specs.declared.answer.ClassMade.the-variants.{Made, Refused}
 

@@ -4,7 +4,7 @@ use mathlib.Core.List.{List, [], _∷_, _++_}
 use Prim.Native.Nat.{ℕ, _+_, _-_, _≤_, _<_}
 use native.Mathlib.Omega.{arith}
 use native.Mathlib.Numerals.{add-one}
-use lib.ListN.{length, getD, set, take, drop}
+use lib.ListN.{length, set, take, drop}
 use lib.Seq.{ext-getD, length-take-le, getD-take, take-suc-set}
 use Rattle.definition.specs.Graph.{upTo}
 use Rattle.theory.specs.Unification.Circle.{length-upTo}
