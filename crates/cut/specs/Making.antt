@@ -1,7 +1,7 @@
 -- A cut class made, as the definition makes it.
 use mathlib.Core.Path.{_≡_, refl, sym, ap, _∙_, subst}
 use mathlib.Core.Bool.{true}
-use mathlib.Core.List.{List, [], _∷_, map}
+use mathlib.Core.List.{List, [], _∷_, _++_, map}
 use Prim.Native.Nat.{ℕ, _+_, _-_, _≤_, _<_}
 use native.Mathlib.Omega.{arith}
 use lib.ListN.{length, getD, length-append, length-map}
@@ -71,6 +71,9 @@ pub record Done (bytes work class words work′ class′ words′ cells : List �
   pub standing : Standing bytes work′ class′ words′ cells c k l r st′ memo fill′ P built
   pub is : (L : Lent) → L .pattern ≡ length words → L .class ≡ length class → outcome L (makeCut P p b) ≡ fine built
   pub longer : length (built .classes) ≡ length (b .classes) + 1
+  pub conclusion : ℕ
+  pub last : built .classes ≡ b .classes ++ (cutClass P p conclusion ∷ [])
+  pub grows : Grows (b .store) (built .store)
 
 -- what `make_cut` answers
 abbrev pub Cuts : List ℕ → List ℕ → List ℕ → List ℕ → List ℕ → List ℕ → List ℕ → Catalog → Keying → Layout → Store → ℕ → ℕ → ℕ → CutMade → Type 0
@@ -236,4 +239,7 @@ module _ (bytes work class words cells : List ℕ) (c : Catalog) (k : Keying) (l
                     (standing-more bytes work class words cells work₂ class₂ words₁ c k l r st st′ memo memo fill P b x S D);
                 is = λ L u v. ap (outcome L) made-adds ∙ add-fine L b (nodes words₁ st′) x (omega (arith, u, patterns-fit)) (omega (arith, v, h, many, S .filled, asks-fits));
                 longer = length-append (b .classes) (x ∷ []);
+                conclusion = q .0;
+                last = refl;
+                grows = asked-grown .grows;
               }

@@ -1,10 +1,11 @@
 -- A class behind its premises: its conclusion and the copies' variables read back, then its row.
 use mathlib.Core.Path.{_≡_, refl, sym, ap, _∙_, subst}
-use mathlib.Core.Bool.{true, false}
+use mathlib.Core.Bool.{Bool, true, false}
 use mathlib.Core.List.{List, [], _∷_, _++_}
 use Prim.Native.Nat.{ℕ, suc, _+_, _*_, _-_, _≤_, _<_}
 use native.Mathlib.Omega.{arith}
 use lib.ListN.{length, getD, length-append, length-map}
+use Rattle.definition.specs.Test.{is, see}
 use Rattle.definition.specs.Pack.{prop, Node, Pack, ruleOf}
 use Rattle.definition.specs.Good.{Below}
 use Rattle.definition.specs.Laws.Prefix.{termWords, termsWords}
@@ -13,12 +14,14 @@ use Rattle.definition.specs.Verdict.{Bound}
 use Rattle.definition.specs.Store.{patternWords}
 use Rattle.definition.specs.Graph.{vertex, upTo, cells as cellsOf}
 use Rattle.definition.specs.Analysis.{Numbered}
-use Rattle.definition.specs.Classes.{Class, Built, Premises, addClass}
+use Rattle.definition.specs.Classes.{Class, Built, Premises, countOf, isFixed, addClass}
+use Rattle.definition.specs.Figures.{classVars, flexVars}
 use Rattle.definition.specs.Frame.{refuse}
 use Rattle.definition.specs.Answer.{Lent}
 use Rattle.definition.specs.Run.{Run, lengthOf, outcome}
 use Rattle.definition.specs.declared.Refusal.the-variants.{Short}
-use Rattle.base.specs.Part.{part, part-same}
+use Rattle.theory.specs.Unification.Circle.{length-upTo}
+use Rattle.base.specs.Part.{part, length-part, part-same}
 use Rattle.base.specs.Outside.{Outside}
 use Rattle.store.specs.Words.{begins-long}
 use Rattle.store.specs.Stored.{nodes, written}
@@ -36,8 +39,9 @@ use Rattle.graph.specs.Cells.{nodes-few}
 use Rattle.keys.specs.declared.classes.Keying.{Keying}
 use Rattle.keys.specs.declared.classes.Counts.{Counts as KeyCounts}
 use Rattle.kept.specs.Runs.{outcome-note, outcome-short}
+use Rattle.kept.specs.Resolves.{resolve-most}
 use Rattle.kept.specs.Variables.{VariablesBelow, bounded-then, resolve-bounded}
-use Rattle.premise.specs.Layout.{tableIn}
+use Rattle.premise.specs.Layout.{tableIn, copiesAt}
 use Rattle.premise.specs.Joins.{copiesIn}
 use Rattle.premise.specs.declared.layout.Layout.{Layout}
 use Rattle.premises.specs.declared.premises.Ruling.{Ruling}
@@ -45,6 +49,8 @@ use Rattle.rows.specs.Standing.{Standing, standing-cells}
 use Rattle.rows.specs.Added.{builtWith, add-short-patterns, add-short-row, add-fine}
 use Rattle.rows.specs.More.{standing-more}
 use Rattle.rows.specs.Grown.{Grown, grown-count, grown-counted, grown-place, grown-adds}
+use Rattle.root.specs.Asked.{graph-long}
+use Rattle.conclude.specs.Entries.{renamed}
 use Rattle.conclude.specs.Beyond.{valued-beyond}
 use Rattle.conclude.specs.Concludes.{Here, Concluding, Concludes}
 use Rattle.conclude.specs.Concludes as concluded
@@ -56,7 +62,7 @@ use Rattle.rules.specs.Valuing.{Valued-as}
 use Rattle.derive.specs.declared.make.RuleMade.{RuleMade}
 use Rattle.derive.specs.declared.make.RuleMade.the-variants.{Made, Clash, Circle, Differs, ShortGraph, ShortPatterns, ShortRows}
 use Rattle.derive.specs.Marks.{Numbered as Marks, Writing, Writes, writes-row}
-use Rattle.derive.specs.Done.{Done, Refused}
+use Rattle.derive.specs.Done.{Few, Done, Refused}
 
 -- ---- what is asked and answered
 -- the premises have their values, and class i is the next
@@ -110,6 +116,15 @@ module _ (P : Pack) (b : Built) (r n : ℕ) (ps : Premises) (vs : List Bound) (L
   rest-adds : cellsOf (topOf P r n ps .graph) ≤ L .graph → outcome L (rest P b r n ps vs) ≡ outcome L (addClass b (entriesOf P b r n ps vs .state .store) (classOf P b r n ps vs))
   unfolding rest lengthOf
   rest-adds h = outcome-note L 3 (cellsOf (topOf P r n ps .graph)) _ h
+
+-- no more pass than there are
+count-most : {A : Type 0} (f : A → Bool) (xs : List A) → countOf f xs ≤ length xs
+unfolding countOf
+count-most f [] = omega arith
+count-most f (x ∷ xs) = elim (see (f x)) [
+  | is true p ↦ rw (p, countOf) (let i = count-most f xs in omega arith)
+  | is false p ↦ rw (p, countOf) (let i = count-most f xs in omega arith)
+]
 
 -- a rule's conclusion is spelt behind its premises
 conclusion-spells : (P : Pack) → Proper P → (r : ℕ) → r < length (P .rules) → (vars from : ℕ) → vars ≡ length (ruleOf P r .vars) → from ≡ length (termsWords (ruleOf P r .premises))
@@ -235,6 +250,13 @@ module _ (bytes work class words cells : List ℕ) (c : Catalog) (k : Keying) (l
       patterns-fit : length (patternWords (nodes words₁ st₁)) ≤ length words
       patterns-fit = omega (arith, begins-long (nodes words₁ st₁) words₁ (read .lifts .laid .index .placed .begins), more-words)
 
+      -- the copies' variables are no more than there are cells
+      copies-few : length (ps .copies) ≤ length cells
+      copies-few =
+          let H = Z .valued .here in
+          let n : copies ≤ length cells = omega (arith, H .few, nodes-few cells (tableIn work l) g (H .shows .laid), H .shows .laid .fits) in
+          omega (arith, n, ap length (H .copies-are), length-part (l .graph + copiesAt cells) copies work (omega (arith, n, S .placed .laid .table, S .placed .laid .inside)))
+
       -- its variables
       many : length (x .flex) ≡ q .numbered
       many = length-map (entriesOf P b (u .rule) (u .vars) ps vs .state .numbering) (λ y. vertex (topOf P (u .rule) (u .vars) ps .graph) y .flex) ∙ read .many
@@ -304,7 +326,7 @@ module _ (bytes work class words cells : List ℕ) (c : Catalog) (k : Keying) (l
               numbered = marks;
             }
 
-        module _ (work₂ class₂ : List ℕ) (W : Writes work₁ class work₂ class₂ cells₁ k l g₁ fill i (q .pattern) (q .numbered)) where
+        module _ (work₂ class₂ : List ℕ) (flex : ℕ) (W : Writes work₁ class work₂ class₂ cells₁ k l g₁ fill i (q .pattern) (q .numbered) flex) where
           -- nothing else was written
           places : Outside (l .rows) (l .end) work work₂
           places =
@@ -318,13 +340,37 @@ module _ (bytes work class words cells : List ℕ) (c : Catalog) (k : Keying) (l
                 behind = λ j m. O .behind j (omega (arith, p, Z .number, laid .index, laid .memo, laid .stack, laid .variables, laid .table)) ∙ F .behind j (omega (arith, laid .table));
               }
 
+          -- its variables, and those that are flexible
+          vars-are : classVars x ≡ q .numbered
+          unfolding classVars
+          vars-are = many
+
+          flex-are : flexVars x ≡ flex
+          unfolding flexVars
+          flex-are = sym (W .counted (topOf P (u .rule) (u .vars) ps .graph) (entriesOf P b (u .rule) (u .vars) ps vs .state .numbering) marks)
+
+          -- what figures count is no more than there are cells
+          few-counted : Few (length cells) (record { vars = q .numbered; flex = flex; fixed = q .fixed; entries = q .entries; renamings = q .renamings })
+          few-counted =
+              let top = topOf P (u .rule) (u .vars) ps .graph in
+              let e = entriesOf P b (u .rule) (u .vars) ps vs in
+              let nodes : length top ≤ length cells =
+              omega (arith, graph-long cells₁ (tableIn work₁ l) g₁ top (read .shows), nodes-few cells₁ (tableIn work₁ l) g₁ (read .shows .laid), read .shows .laid .fits, more-cells) in
+              record {
+                vars = read .numbered;
+                flex = W .some;
+                fixed = omega (arith, read .fixed, count-most (isFixed top vs (e .state .numbering)) (upTo (length top)), length-upTo (length top), nodes);
+                entries = omega (arith, read .entries, resolve-most (suc (length top)) P top vs false (ps .copies) (conclusionOf P b (u .rule) (u .vars) ps vs .state), copies-few);
+                renamings = omega (arith, read .entries, read .renamings, count-most (renamed (e .state .store)) (e .patterns));
+              }
+
           -- the class is made
-          done : Done class words cells bytes work₂ class₂ words₁ cells₁ c k l r st₁ memo (fill + 3 + q .numbered) (record { fixed = q .fixed; entries = q .entries; renamings = q .renamings }) P b (rest P b (u .rule) (u .vars) ps (Z .valued .values))
+          done : Done class words cells bytes work₂ class₂ words₁ cells₁ c k l r st₁ memo (fill + 3 + q .numbered) (record { vars = q .numbered; flex = flex; fixed = q .fixed; entries = q .entries; renamings = q .renamings }) P b (rest P b (u .rule) (u .vars) ps (Z .valued .values))
           done =
               let count = grown-count bytes work class words cells work₁ words₁ c k l r st st₁ memo memo fill P b x S grown one-more in
               let j = length (b .classes) in
-              let Y : Writes work₁ class work₂ class₂ cells₁ k l g₁ fill (length (b .classes)) (q .pattern) (q .numbered) = subst (λ (m : ℕ). Writes work₁ class work₂ class₂ cells₁ k l g₁ fill m (q .pattern) (q .numbered)) (Z .number) W in
-              let R = writes-row work₁ class work₂ class₂ cells₁ k l g₁ fill j (q .pattern) (q .numbered) x (topOf P (u .rule) (u .vars) ps .graph) (entriesOf P b (u .rule) (u .vars) ps vs .state .numbering) Y marks
+              let Y : Writes work₁ class work₂ class₂ cells₁ k l g₁ fill (length (b .classes)) (q .pattern) (q .numbered) flex = subst (λ (m : ℕ). Writes work₁ class work₂ class₂ cells₁ k l g₁ fill m (q .pattern) (q .numbered) flex) (Z .number) W in
+              let R = writes-row work₁ class work₂ class₂ cells₁ k l g₁ fill j (q .pattern) (q .numbered) flex x (topOf P (u .rule) (u .vars) ps .graph) (entriesOf P b (u .rule) (u .vars) ps vs .state .numbering) Y marks
               (read .pattern) refl (sym (read .many)) (getD (keysOf P .classes) j noKeyed .count) count in
               let D = grown-adds bytes work class words cells work₁ words₁ c k l r st st₁ memo memo fill P b x S grown one-more work₂ (Y .between) class₂ (q .pattern) _ (q .numbered) (Y .begun) R in
               let e : fill + 3 + length (x .flex) ≡ fill + 3 + q .numbered = ap (λ (m : ℕ). fill + 3 + m) many in
@@ -338,7 +384,10 @@ module _ (bytes work class words cells : List ℕ) (c : Catalog) (k : Keying) (l
                 longer = length-append (b .classes) (x ∷ []);
                 made = x;
                 last = refl;
-                cut = refl;
+                grows = read .grows;
+                few = few-counted;
+                vars = vars-are;
+                flex = flex-are;
                 fixed = sym (read .fixed);
                 entries = sym (read .entries);
                 renamings = sym (read .renamings);
@@ -384,12 +433,12 @@ module _ (bytes work class words cells : List ℕ) (c : Catalog) (k : Keying) (l
         adding-writes = writing (K .counts) (K .pack) (K .built) (K .refs) (K .state) (K .solved) work₁ words₁ cells₁ g₁ st₁ q more-words more-cells C h (K .small)
 
         -- the class is made
-        pub adds : (work₂ class₂ : List ℕ) → Writes work₁ class work₂ class₂ cells₁ k l g₁ fill i (q .pattern) (q .numbered)
-            → Adds bytes work class words cells work₂ class₂ words₁ cells₁ c k l st memo g env u from copies fill i (Made st₁ memo (fill + 3 + q .numbered) (record { fixed = q .fixed; entries = q .entries; renamings = q .renamings }))
-        adds work₂ class₂ W = (
-          (λ r P b refs ps Z. done r P b refs ps Z work₁ words₁ cells₁ g₁ st₁ q more-words more-cells C h work₂ class₂ W),
+        pub adds : (work₂ class₂ : List ℕ) (flex : ℕ) → Writes work₁ class work₂ class₂ cells₁ k l g₁ fill i (q .pattern) (q .numbered) flex
+            → Adds bytes work class words cells work₂ class₂ words₁ cells₁ c k l st memo g env u from copies fill i (Made st₁ memo (fill + 3 + q .numbered) (record { vars = q .numbered; flex = flex; fixed = q .fixed; entries = q .entries; renamings = q .renamings }))
+        adds work₂ class₂ flex W = (
+          (λ r P b refs ps Z. done r P b refs ps Z work₁ words₁ cells₁ g₁ st₁ q more-words more-cells C h work₂ class₂ flex W),
           C .1,
-          places (K .counts) (K .pack) (K .built) (K .refs) (K .state) (K .solved) work₁ words₁ cells₁ g₁ st₁ q more-words more-cells C h work₂ class₂ W,
+          places (K .counts) (K .pack) (K .built) (K .refs) (K .state) (K .solved) work₁ words₁ cells₁ g₁ st₁ q more-words more-cells C h work₂ class₂ flex W,
           (let O = W .begun .rows in
               record { long = W .outside .long ∙ O .long; ahead = λ j m. W .outside .ahead j (omega arith) ∙ O .ahead j m; behind = λ j m. W .outside .behind j m ∙ O .behind j (omega arith) }),
         )

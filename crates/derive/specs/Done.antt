@@ -1,15 +1,17 @@
 -- What a run that makes a class comes to: it is made and all stands with it, or the run is refused.
 use mathlib.Core.Path.{_≡_, sym, _∙_}
-use mathlib.Core.Bool.{false}
 use mathlib.Core.List.{List, [], _∷_, _++_}
-use Prim.Native.Nat.{ℕ, _+_}
+use Prim.Native.Nat.{ℕ, _+_, _≤_}
+use native.Mathlib.Omega.{arith}
 use lib.ListN.{length}
 use Rattle.definition.specs.Pack.{Pack}
 use Rattle.definition.specs.Classes.{Class, Built}
+use Rattle.definition.specs.Figures.{classVars, flexVars}
 use Rattle.definition.specs.Frame.{fine, refuse}
 use Rattle.definition.specs.Answer.{Lent}
 use Rattle.definition.specs.Run.{Run, outcome}
 use Rattle.definition.specs.declared.Refusal.{Refusal}
+use Rattle.theory.specs.Patterns.Interned.{Grows}
 use Rattle.store.specs.declared.memo.Memo.{Memo}
 use Rattle.store.specs.declared.nodes.Store.{Store}
 use Rattle.catalog.specs.declared.whole.Catalog.{Catalog}
@@ -25,6 +27,14 @@ pub record Lends (L : Lent) (class words cells : List ℕ) : Type 0 where
   pub words-long : L .pattern ≡ length words
   pub cells-long : L .graph ≡ length cells
 
+-- what figures count of a class is no more than n
+pub record Few (n : ℕ) (f : Counted) : Type 0 where
+  pub vars : f .vars ≤ n
+  pub flex : f .flex ≤ f .vars
+  pub fixed : f .fixed ≤ n
+  pub entries : f .entries ≤ n
+  pub renamings : f .renamings ≤ f .entries
+
 -- the run makes a class, these figures count of it, and all stands with it
 pub record Done (class words cells bytes work′ class′ words′ cells′ : List ℕ) (c : Catalog) (k : Keying) (l : Layout) (r : KeyCounts) (st′ : Store) (memo′ : Memo) (fill′ : ℕ) (f : Counted) (P : Pack) (b : Built) (run : Run Built) : Type 0 where
   pub built : Built
@@ -33,7 +43,10 @@ pub record Done (class words cells bytes work′ class′ words′ cells′ : Li
   pub longer : length (built .classes) ≡ length (b .classes) + 1
   pub made : Class
   pub last : built .classes ≡ b .classes ++ (made ∷ [])
-  pub cut : made .cut ≡ false
+  pub grows : Grows (b .store) (built .store)
+  pub few : Few (length cells) f
+  pub vars : classVars made ≡ f .vars
+  pub flex : flexVars made ≡ f .flex
   pub fixed : made .fixed ≡ f .fixed
   pub entries : made .entries ≡ f .entries
   pub renamings : made .renamings ≡ f .renamings
@@ -58,7 +71,16 @@ module _ (class words cells cells₁ : List ℕ) (long : length cells₁ ≡ len
     longer = D .longer;
     made = D .made;
     last = D .last;
-    cut = D .cut;
+    grows = D .grows;
+    few = record {
+      vars = omega (arith, D .few .vars, long);
+      flex = D .few .flex;
+      fixed = omega (arith, D .few .fixed, long);
+      entries = omega (arith, D .few .entries, long);
+      renamings = D .few .renamings;
+    };
+    vars = D .vars;
+    flex = D .flex;
     fixed = D .fixed;
     entries = D .entries;
     renamings = D .renamings;

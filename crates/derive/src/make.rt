@@ -15,8 +15,10 @@ use store::nodes::Store;
 ghost use Rattle.derive.specs.Adding.{Adding, Adds};
 ghost use Rattle.derive.specs.Making.{Making, Makes};
 
-// What figures count of a class.
+// What figures count of a class: its variables, those of them that are flexible, the fixed ones, entries and renamings.
 pub struct Counted {
+    pub vars: usize,
+    pub flex: usize,
     pub fixed: usize,
     pub entries: usize,
     pub renamings: usize,
@@ -70,8 +72,10 @@ fn add_class(
             if class.len() - fill < 3 + n {
                 return RuleMade::ShortRows;
             }
-            write_row(work, class, cells, k, l, h, fill, i, read.pattern, n);
+            let flex = write_row(work, class, cells, k, l, h, fill, i, read.pattern, n);
             let f = Counted {
+                vars: n,
+                flex: flex,
                 fixed: read.fixed,
                 entries: read.entries,
                 renamings: read.renamings,

@@ -5,3 +5,4 @@ pub mod Turns
 pub mod Whole
 pub mod Going
 pub mod Variables
+pub mod Count

@@ -2,11 +2,9 @@
 use mathlib.Core.Path.{_≡_, refl, sym, ap, subst, _∙_}
 use mathlib.Core.Bool.{true, false}
 use mathlib.Core.List.{List, [], _∷_, _++_}
-use Prim.Native.Nat.{ℕ, zero, suc, _+_, _-_, _≤_, _<_}
+use Prim.Native.Nat.{ℕ, suc, _+_, _-_, _≤_, _<_}
 use native.Mathlib.Omega.{arith}
-use native.Mathlib.Numerals.{add-one}
-use lib.ListN.{length, getD, set, take, drop, length-set}
-use lib.Seq.{take-suc-set, take-length}
+use lib.ListN.{length, getD, take, drop}
 use Rattle.definition.specs.Test.{is, see}
 use Rattle.definition.specs.Pack.{prop, Term, Terms, var, app, nil, cons, Pack, symbolOf, ruleOf}
 use Rattle.definition.specs.Certificate.{count}
@@ -36,6 +34,7 @@ use Rattle.instantiate.specs.declared.terms.Place.{Place}
 use Rattle.instantiate.specs.declared.variables.Opened.the-variants.{On, Short as Full}
 use Rattle.instantiate.specs.Building.{Spells, tableIn, Room, Outside, outside-then, outside-same, Asked, Instantiates}
 use Rattle.instantiate.specs.Variables.{variablesOf, Opening, Opens}
+use Rattle.instantiate.specs.Count.{up-lent}
 use Rattle.single.specs.Single.{concluded}
 
 -- ---- what is asked and answered
@@ -59,16 +58,6 @@ Concludes bytes work work′ cells cells′ c l (At x g) =
     × ((P : Pack) → Reads bytes (recordsOf work c) P → Proper P → Ruled P l
     → (x .0 ≡ concluded P (l .rule) .at) × Shows cells′ (tableIn work′ l) g (concluded P (l .rule) .graph) × Inner (concluded P (l .rule) .graph) × (x .0 < length (concluded P (l .rule) .graph)))
 Concludes bytes work work′ cells cells′ c l Short = (P : Pack) → Reads bytes (recordsOf work c) P → Proper P → Ruled P l → length cells < cellsOf (concluded P (l .rule) .graph)
-
--- ---- counting up
--- one number more
-pub up-more : (env : List ℕ) (i : ℕ) → i < length env → take i env ≡ upTo i → take (i + 1) (set env i i) ≡ upTo (i + 1)
-unfolding upTo
-up-more env i h e = rw (add-one i) (take-suc-set env i i h ∙ ap (λ (xs : List ℕ). xs ++ (i ∷ [])) e)
-
--- as they are lent
-pub up-lent : (env : List ℕ) (n : ℕ) → take n env ≡ upTo n → take (n - 0) (drop 0 env) ≡ upTo n
-up-lent env n e = let z : n - 0 ≡ n = omega arith in ap (λ (j : ℕ). take j env) z ∙ e
 
 -- ---- the conclusion's words are all of the rule's
 module _ (P : Pack) (Q : Proper P) (l : Place) (R : Ruled P l) where

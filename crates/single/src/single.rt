@@ -5,6 +5,7 @@ use call::lent::Lent;
 use call::opening::open_pack;
 use catalog::whole::Catalog;
 use graph::graph::Pushed;
+use instantiate::count::count_up;
 use instantiate::terms::Place;
 use instantiate::terms::instantiate;
 use instantiate::variables::Opened;
@@ -24,27 +25,13 @@ use reader::parsed::tables;
 use root::words::Table;
 use store::nodes::Store;
 ghost use mathlib.Core.Path.{_≡_};
-ghost use Prim.Native.Nat.{_≤_, _<_};
-ghost use lib.ListN.{length, take};
-ghost use Rattle.definition.specs.Graph.{upTo};
+ghost use lib.ListN.{length};
 ghost use Rattle.readback.specs.Came.{Left, lentTo, opened};
 ghost use Rattle.readback.specs.Walks.{Walks};
 ghost use Rattle.readback.specs.Places.{Opened as Open};
 ghost use Rattle.single.specs.Single.{stepClass, singleLeaves};
 ghost use Rattle.single.specs.Conclusions.{Concluding, Concludes};
 ghost use Rattle.single.specs.Classes.{Based, Classes, Whole, RuleClasses, StepClasses};
-
-// The first `n` words are the numbers below `n`.
-fn count_up(env: &mut [u32], n: usize)
-    requires { ⌜ (n ≤ length (now env)) × (n ≤ 64) ⌝ }
-    ensures { λ _. ⌜ take n (now (env .exit)) ≡ upTo n ⌝ }
-{
-    let mut i: usize = 0;
-    while i < n {
-        env[i] = i as u32;
-        i += 1;
-    }
-}
 
 // The conclusion of a rule without premises in a graph of the rule's variables.
 fn conclude(pack: &[u8], work: &mut [u32], cells: &mut [u32], c: Catalog, l: Place) -> Pushed

@@ -37,7 +37,7 @@ returns-2 : tie.Need-returns-2
 returns-2 c =
     let f = c .before .before .before .before .before .before .before .before .before .before .before .before .before .before .before .before .before .before .conclude in
     let C = rw (c .before .before .before .before .before .before .before .before .before .before .h .given .1) at (f .ensures) in
-    adds _ _ _ _ _ _ _ _ _ _ _ _ _ _ _ _ _ (c .before .before .before .before .before .before .before .before .before .before .before .before .before .before .before .before .before .before .before .before .before .before .before .before .before .before .before .before .pre) _ _ _ _ _ _ (f .kept .1 .1 .0) (f .kept .1 .1 .1 .0) C (omega (arith, c .before .before .before .before .before .before .before .before .if1 .left)) _ _ (c .before .before .before .before .write-row .ensures)
+    adds _ _ _ _ _ _ _ _ _ _ _ _ _ _ _ _ _ (c .before .before .before .before .before .before .before .before .before .before .before .before .before .before .before .before .before .before .before .before .before .before .before .before .before .before .before .before .pre) _ _ _ _ _ _ (f .kept .1 .1 .0) (f .kept .1 .1 .1 .0) C (omega (arith, c .before .before .before .before .before .before .before .before .if1 .left)) _ _ _ (c .before .before .before .before .write-row .ensures)
 
 returns-3 : tie.Need-returns-3
 returns-3 c =

@@ -22,7 +22,7 @@ returns : tie.Need-returns
 returns c =
     let a = c .before .before .before .before .before .before .before .before .before .before .before .before .before .before .before .before .before .args in
     let n = c .before .before .before .before .before .before .before .before .before .before .before .before .class-count in
-    writes _ _ _ _ _ _ _ _ _ (c .before .before .before .before .before .before .before .before .before .before .before .before .before .before .before .before .before .pre) _ (omega (arith, n .ensures, c .before .before .before .before .before .before .before .before .before .before .before .before .before .before .before .before .slice-known .given (a .k .at + 2 * a .k .cap + a .i))) _ _ _ (c .before .before .before .before .before .before .before .before .before .begin-row .ensures) _ (n .ensures) (c .before .before .put-flexes .ensures)
+    writes _ _ _ _ _ _ _ _ _ (c .before .before .before .before .before .before .before .before .before .before .before .before .before .before .before .before .before .pre) _ (omega (arith, n .ensures, c .before .before .before .before .before .before .before .before .before .before .before .before .before .before .before .before .slice-known .given (a .k .at + 2 * a .k .cap + a .i))) _ _ _ (c .before .before .before .before .before .before .before .before .before .begin-row .ensures) _ _ (n .ensures) (c .before .before .put-flexes .ensures)
 
 pub write-row-spec : {M : Type 1} → statement M
 write-row-spec =

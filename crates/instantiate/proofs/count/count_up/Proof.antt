@@ -4,10 +4,10 @@ use Prim.Native.Nat.{_-_, _≤_}
 use native.Mathlib.Omega.{arith}
 use lib.ListN.{length, take, length-set}
 use Rattle.definition.specs.Graph.{upTo}
-use Rattle.single.specs.Conclusions.{up-more}
+use Rattle.instantiate.specs.Count.{up-more}
 use borrow.Author.Needs.{needs}
-use Rattle.single.proofs.single.count_up.Statement.{statement}
-use Rattle.single.proofs.single.count_up.Tie as tie
+use Rattle.instantiate.proofs.count.count_up.Statement.{statement}
+use Rattle.instantiate.proofs.count.count_up.Tie as tie
 
 abbrev Inv-loop : tie.InvT-loop
 Inv-loop env₀ n i₀ env i = (i ≤ n) × (length env ≡ length env₀) × (take i env ≡ upTo i)
