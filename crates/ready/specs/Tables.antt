@@ -1,0 +1,89 @@
+-- The store and the memo as they begin, in their parts of work.
+use mathlib.Core.Path.{_≡_, sym, ap, _∙_, subst}
+use mathlib.Core.List.{List, []}
+use Prim.Native.Nat.{ℕ, _+_, _*_, _-_, _/_, _≤_, _<_}
+use native.Mathlib.Omega.{arith}
+use lib.ListN.{length}
+use Rattle.base.specs.Part.{put, length-part, part-put}
+use Rattle.base.specs.Outside.{Outside, outside-put}
+use Rattle.store.specs.Stored.{Stored, nodes, Enough}
+use Rattle.store.specs.Recall.{Remembers}
+use Rattle.store.specs.declared.memo.Memo.{Memo}
+use Rattle.store.specs.declared.nodes.Store.{Store}
+use Rattle.catalog.specs.Whole.{recordsOf}
+use Rattle.catalog.specs.Same.{Same, same-records, endOf as tablesEnd}
+use Rattle.catalog.specs.declared.whole.Catalog.{Catalog}
+use Rattle.pack.specs.Held.{Held, held-on}
+use Rattle.lift.specs.Lifts.{Lifts, Clears}
+use Rattle.premise.specs.Layout.{indexIn, memoIn}
+use Rattle.premise.specs.declared.layout.Layout.{Layout}
+use Rattle.rows.specs.Standing.{liftedOf}
+
+-- ---- the store
+-- there is an index for the words, behind lifting's
+pub record Indexable (work words : List ℕ) (l : Layout) : Type 0 where
+  pub small : length words < 4294967295
+  pub index : l .lifted + 3 * l .nodes + (4 * (length words / 2) + 1) ≤ l .copied
+  pub inside : l .copied ≤ length work
+
+-- what `begin_store` answers: a store without nodes, and nothing is lifted
+pub record StoreBegun (work work′ words : List ℕ) (l : Layout) (st : Store) : Type 0 where
+  pub frame : Outside (l .lifted) (l .copied) work work′
+  pub none : nodes words st ≡ []
+  pub lifts : (bytes : List ℕ) (c : Catalog) → Held bytes work c → tablesEnd c ≤ l .lifted → l .nodes ≡ length (recordsOf work c 3) → Lifts bytes work′ words c (liftedOf l) st
+
+module _ (work words : List ℕ) (l : Layout) (X : Indexable work words l) where
+  abbrev at : ℕ
+  at = l .lifted + 3 * l .nodes
+
+  abbrev many : ℕ
+  many = l .copied - at
+
+  fit : at + many ≤ length work
+  fit = omega (arith, X .index, X .inside)
+
+  -- the index is long enough
+  pub index-enough : Enough (indexIn work l) words
+  index-enough = record { small = X .small; wide = omega (arith, length-part at many work fit, X .index) }
+
+  -- the index came back with a store, then lifting's words were cleared
+  pub store-begun : (idx work′ : List ℕ) (st : Store) → length idx ≡ length (indexIn work l) → Stored idx words st → nodes words st ≡ [] → Clears (put at many idx work) work′ (liftedOf l) → StoreBegun work work′ words l st
+  store-begun idx work′ st e S n C =
+      let long : length idx ≡ many = e ∙ length-part at many work fit in
+      let back : Outside at (at + many) work (put at many idx work) = outside-put at many work idx fit long in
+      record {
+        frame = record {
+          long = C .long ∙ back .long;
+          ahead = λ i h. C .ahead i h ∙ back .ahead i (omega arith);
+          behind = λ i h. C .beyond i (omega (arith, X .index)) ∙ back .behind i (omega (arith, X .index));
+        };
+        none = n;
+        lifts = λ bytes c H b m.
+            let s : Same work (put at many idx work) c = record { long = back .long; words = λ i h. back .ahead i (omega arith) } in
+            C .lifts bytes words c st (record {
+              held = held-on bytes work (put at many idx work) c s H;
+              behind = b;
+              many = m ∙ ap length (sym (same-records work (put at many idx work) c s (H .cataloged .fits) 3 (omega arith)));
+              fits = omega (arith, X .index);
+              inside = omega (arith, X .inside, back .long);
+              index = subst (λ (xs : List ℕ). Stored xs words st) (sym (part-put at many work fit idx long)) S;
+            });
+      }
+
+-- ---- the memo
+-- what `begin_memo` answers
+pub record MemoBegun (work work′ : List ℕ) (l : Layout) (m : Memo) : Type 0 where
+  pub frame : Outside (l .copied) (l .walk) work work′
+  pub remembers : Remembers (memoIn work′ l) m
+
+-- the memo's words came back
+pub memo-begun : (work table : List ℕ) (l : Layout) (m : Memo) → l .copied ≤ l .walk → l .walk ≤ length work → length table ≡ length (memoIn work l) → Remembers table m
+    → MemoBegun work (put (l .copied) (l .walk - l .copied) table work) l m
+memo-begun work table l m h inside e R =
+    let fit : l .copied + (l .walk - l .copied) ≤ length work = omega arith in
+    let long : length table ≡ l .walk - l .copied = e ∙ length-part (l .copied) (l .walk - l .copied) work fit in
+    let end : l .copied + (l .walk - l .copied) ≡ l .walk = omega arith in
+    record {
+      frame = subst (λ (i : ℕ). Outside (l .copied) i work (put (l .copied) (l .walk - l .copied) table work)) end (outside-put (l .copied) (l .walk - l .copied) work table fit long);
+      remembers = subst (λ (xs : List ℕ). Remembers xs m) (sym (part-put (l .copied) (l .walk - l .copied) work fit table long)) R;
+    }
