@@ -27,3 +27,4 @@ pub record Places (work words cells : List ℕ) (k : Keying) (n : ℕ) (l : Layo
   pub placed : Placed work words cells k l
   pub nodes : l .nodes ≡ n
   pub index : l .lifted + 3 * l .nodes + (4 * (length words / 2) + 1) ≤ l .copied
+  pub behind : l .copied ≤ endOf k + k .cap + 3 * n + (4 * (length words / 2) + 1)

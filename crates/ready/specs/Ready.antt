@@ -68,6 +68,8 @@ unbuilt P = record { store = []; classes = []; fill = length (P .steps) }
 pub record Starts (bytes class words cells work′ class′ : List ℕ) (c : Catalog) (k : Keying) (l : Layout) (r : Counts) (st : Store) (memo : Memo) (P : Pack) : Type 0 where
   pub standing : Standing bytes work′ class′ words cells c k l r st memo (length (P .steps)) P (unbuilt P)
   pub is : (L : Lent) → L .class ≡ length class → outcome L (buildClasses P) ≡ outcome L (makeClasses P (keysOf P .words) (keysOf P .classes) (unbuilt P))
+  -- behind the store's index there is room for the goals' tests, too
+  pub tests : l .copied + (3 * length words + 2 * (length cells + 16)) ≤ length work′
 
 -- there is no room for the steps' words of pack P
 pub record Shorts (class : List ℕ) (P : Pack) : Type 0 where
@@ -182,4 +184,5 @@ module _ (bytes work class words cells : List ℕ) (c : Catalog) (O : Opened byt
                   sound = λ i h. absurd (omega arith);
                 };
                 is = λ L q. build-on L P (omega (arith, n, enough));
+                tests = omega (arith, D .behind, at-same, cap-same, at-is, cap-is, f, O .room, records-few bytes work c 3 (O .held .cataloged) (omega arith), keys-stay .long, F .long);
               }
