@@ -1,0 +1,3 @@
+// The figures of class building.
+pub mod figures;
+pub mod histogram;
