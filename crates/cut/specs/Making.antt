@@ -13,6 +13,7 @@ use Rattle.definition.specs.Frame.{fine, refuse}
 use Rattle.definition.specs.Answer.{Lent}
 use Rattle.definition.specs.Run.{outcome}
 use Rattle.definition.specs.declared.Refusal.the-variants.{Short}
+use Rattle.theory.specs.Patterns.Interned.{Grows}
 use Rattle.theory.specs.Walks.Again.{stored}
 use Rattle.base.specs.Part.{part-same}
 use Rattle.base.specs.Outside.{Outside}
