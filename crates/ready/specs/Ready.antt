@@ -6,7 +6,7 @@ use native.Mathlib.Omega.{arith}
 use lib.ListN.{length}
 use Rattle.definition.specs.Pack.{Pack}
 use Rattle.definition.specs.Frame.{refuse}
-use Rattle.definition.specs.Answer.{Lent}
+use Rattle.definition.specs.Answer.{Lent, mostCells}
 use Rattle.definition.specs.Run.{outcome}
 use Rattle.definition.specs.Keys.{keyed as keysOf}
 use Rattle.definition.specs.Classes.{Built, makeClasses, buildClasses}
@@ -46,11 +46,11 @@ pub record Opened (bytes work words cells : List ℕ) (c : Catalog) : Type 0 whe
   pub tables : c ≡ tablesOf (length bytes)
   pub held : Held bytes work c
   pub marks : Marks bytes work c
-  pub small : length words ≤ 16777216
+  pub small : length words ≤ mostCells
   pub room : 16 * (length words + length cells + length bytes) + 1024 ≤ length work
 
 -- so it is when a pack was opened
-pub opened : (bytes work words cells : List ℕ) (c : Catalog) → c ≡ tablesOf (length bytes) → (P : Pack) → Represents bytes work P → Proper P → length words ≤ 16777216
+pub opened : (bytes work words cells : List ℕ) (c : Catalog) → c ≡ tablesOf (length bytes) → (P : Pack) → Represents bytes work P → Proper P → length words ≤ mostCells
     → 16 * (length words + length cells + length bytes) + 1024 ≤ length work → Opened bytes work words cells c
 opened bytes work words cells c e P R p small room = record {
   tables = e;
