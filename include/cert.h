@@ -56,6 +56,68 @@ struct cert_answer {
 struct cert_answer cert_check(const uint8_t *pack, size_t pack_len, uint32_t *work,
                               size_t work_len);
 
+/* What class building counts; all 0 with a refusal. */
+struct cert_figures {
+    uint64_t steps;           /* needed steps */
+    uint64_t classes;         /* classes made */
+    uint64_t ground_nodes;    /* the pack's ground nodes, used or not */
+    uint64_t pattern_nodes;   /* nodes of the pattern store */
+    uint64_t class_vars;      /* variables of the classes that aren't cut */
+    uint64_t flex_vars;       /* flexible ones among them */
+    uint64_t fixed_vars;      /* variables fixed to their ground values */
+    uint64_t subst_entries;   /* variables of the copies, read back */
+    uint64_t subst_renamings; /* those that were read back as variables */
+    /* classes of up to 1 step, of 2 to 9, of 10 to 99, of 100 or more */
+    uint64_t single, few, tens, hundreds;
+};
+
+/* The number of an answer, its place, and the figures. */
+struct cert_classes_answer {
+    uint64_t code, place;
+    struct cert_figures figures;
+};
+
+/*
+ * The classes of a pack's needed steps, and the most general conclusion of each.
+ *
+ * Lent:
+ *   pack     pack_len bytes, at most 2^24
+ *   classes  classes_len words, at most 2^24: class words
+ *   pattern  pattern_len words, at most 2^24: pattern words
+ *   graph    graph_len cells, at most 2^24; zero behind the call
+ *   work     work_len words, at least 16 * (pattern_len + graph_len + pack_len) + 1024 and
+ *            at most 2^30; zero behind the call
+ *
+ * Class words: each step's class, from 0 in the order of their first steps, or 2^32 - 1
+ * where the step isn't needed; then for each class its conclusion's pattern node, how many
+ * steps it has, how many variables, and for each variable whether it is flexible, 1 or 0.
+ * Pattern words: for each node how many arguments it has, its head and the arguments; a
+ * variable is 2, 2^32 - 2, its number, its sort. Zeros stand behind both.
+ *
+ * Code and place:
+ *   0  0       done
+ *   1  offset  a record is cut, misordered or against its form
+ *   2  offset  a record is over a limit
+ *   2  0       a length is over its limit
+ *   4  goal    the goal has no result, or one with another judgment
+ *   5  step    as the step's class is made, a premise clashes with its ref's conclusion
+ *   6  step    a circle is left
+ *   7  step    the refs' judgments are no instance of the premises, or a goal's judgment is
+ *              none of its class's conclusion
+ *   8  buffer  classes (1), pattern (2), graph (3) or work (4) is short
+ *
+ * Every cell of the four buffers is zero behind a refusal. Behind an 8 lend that buffer
+ * longer and call again. If
+ * cert_check answers 0 of the pack and the buffers suffice, the answer is 0, each needed
+ * step's judgment is an instance of its class's conclusion, and a judgment is one exactly
+ * if some derivation of the class's shape concludes it.
+ */
+struct cert_classes_answer cert_classes(const uint8_t *pack, size_t pack_len,
+                                        uint32_t *classes, size_t classes_len,
+                                        uint32_t *pattern, size_t pattern_len,
+                                        uint32_t *graph, size_t graph_len, uint32_t *work,
+                                        size_t work_len);
+
 #ifdef __cplusplus
 }
 #endif

@@ -40,7 +40,7 @@ pub record Statement (bytes : List ℕ) (work : ℕ) (a : Answer) : Type 0 where
   pub just : (P : Pack) → lengths (checkLent (length bytes) work) ≡ none → parse bytes ≡ fine P → Accepted P → a .code ≡ 0
 
 -- every parsed pack is proper
-proper : (bytes : List ℕ) (P : Pack) → parse bytes ≡ fine P → Proper P
+pub proper : (bytes : List ℕ) (P : Pack) → parse bytes ≡ fine P → Proper P
 proper bytes P f = record { good = parsed-good bytes P f; once = parsed-once bytes P f; few = parsed-few bytes P f }
 
 module _ (bytes work : List ℕ) (c : Catalog) (e : c ≡ tablesOf (length bytes)) where

@@ -1,2 +1,3 @@
 -- What the calls of a dock promise.
 pub mod Check
+pub mod Classes

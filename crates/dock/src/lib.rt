@@ -1,2 +1,3 @@
 // The calls of a dock.
 pub mod check;
+pub mod sorting;

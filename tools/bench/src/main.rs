@@ -2,6 +2,7 @@
 //! held against the recorded vectors and certpack. build.rs brings them in.
 mod check_pace;
 mod checks;
+mod classes;
 mod edits;
 mod forms;
 #[cfg(feature = "original")]
@@ -62,6 +63,9 @@ bench: the library beside the Rust original
                           the same with wrong steps and goals, and written packs in
                           the library; check the answers beside the recorded ones,
                           certpack's and document 01's, and that work is cleared
+  bench classes FOLDER    build the classes of every recorded pack of FOLDER in the library;
+                          check every word and figure beside the recorded ones, in
+                          buffers just long enough, longer, and a cell too short
   bench unify             unify written pairs of terms and drawn ones in the library;
                           check what comes back beside a plain unifier, and beside the
                           original where it is in the build
@@ -105,6 +109,7 @@ fn run(args: &[&str]) -> Result<String, Fault> {
         ["checks", folder] => Ok(checks::check(folder)?),
         ["check"] => Ok(check_pace::report(false)?),
         ["check", "--quick"] => Ok(check_pace::report(true)?),
+        ["classes", folder] => Ok(classes::check(folder)?),
         ["unify"] => Ok(unify::check()?),
         ["unify", "--times"] => beside("unify --times", false),
         ["unify", "--times", "--quick"] => beside("unify --times", true),

@@ -1,0 +1,135 @@
+-- What class building promises, and the laws of its parts.
+use mathlib.Core.Path.{_≡_, refl, sym, ap, subst, _∙_}
+use mathlib.Core.List.{List, []}
+use mathlib.Core.Option.{none, some}
+use Prim.Native.Nat.{ℕ, _≤_, _<_}
+use native.Mathlib.Omega.{arith}
+use lib.ListN.{length, getD, take, replicate}
+use lib.Seq.{length-take-le}
+use Rattle.definition.specs.Test.{is, see, never}
+use Rattle.definition.specs.Pack.{Pack}
+use Rattle.definition.specs.Frame.{fine, refuse}
+use Rattle.definition.specs.Parse.{parse}
+use Rattle.definition.specs.Answer.{Lent, answer, lengths, padded, padded-none, mostCells}
+use Rattle.definition.specs.Run.{outcome}
+use Rattle.definition.specs.Store.{patternWords}
+use Rattle.definition.specs.Classes.{classWords}
+use Rattle.definition.specs.Figures.{figures}
+use Rattle.definition.specs.Calls.{Classed, classRun, called, classesLent, noFigures, Left, refused, answered, certClasses}
+use Rattle.definition.specs.declared.Answer.{Answer}
+use Rattle.definition.specs.declared.Figures.{Figures}
+use Rattle.definition.specs.declared.Refusal.{Refusal}
+use Rattle.definition.specs.Laws.Put.{Bytes}
+use Rattle.theory.specs.Principal.{DemandThree}
+use Rattle.theory.specs.DemandThree.{demand-three}
+use Rattle.base.specs.Zero.{zeroed, zeroed-all}
+use Rattle.catalog.specs.declared.whole.Catalog.{Catalog}
+use Rattle.reader.specs.Parsed.{tablesOf, Represents}
+use Rattle.horn.specs.Sound.{bytes-all}
+use Rattle.call.specs.Lengths.{lengths-fit}
+use Rattle.call.specs.Opening.{openingRefusal}
+use Rattle.derive.specs.Done.{Lends}
+use Rattle.ready.specs.Ready.{Opened, opened}
+use Rattle.build.specs.Build.{Answered, Builds}
+use Rattle.build.specs.declared.build.Answer.{Answer as Built}
+use Rattle.build.specs.declared.build.Answer.the-variants as built
+use Rattle.dock.specs.Check.{proper, said}
+use Rattle.dock.specs.declared.sorting.ClassesAnswer.{ClassesAnswer}
+
+-- what a call returns and leaves, as the definition has it: no text
+abbrev pub leftOf : ClassesAnswer → List ℕ → List ℕ → List ℕ → List ℕ → Left
+leftOf r class pattern graph work = record {
+  returned = record { code = r .code; place = r .place };
+  figures = r .figures;
+  textLength = 0;
+  class = class;
+  pattern = pattern;
+  graph = graph;
+  work = work;
+  text = [];
+}
+
+-- what the call comes to ahead of clearing
+abbrev pub Comes : List ℕ → List ℕ → List ℕ → List ℕ → List ℕ → List ℕ → List ℕ → Built → Type 0
+Comes bytes class pattern graph work class′ pattern′ (built.Done n m f) =
+    (x : Classed) × (called classRun bytes (classesLent (length bytes) (length class) (length pattern) (length graph) (length work)) ≡ fine x)
+    × (take n class′ ≡ classWords (x .pack) (x .built)) × (n ≤ length class′)
+    × (take m pattern′ ≡ patternWords (x .built .store)) × (m ≤ length pattern′)
+    × (f ≡ figures (x .pack) (x .built))
+Comes bytes class pattern graph work class′ pattern′ (built.Refused r) = called classRun bytes (classesLent (length bytes) (length class) (length pattern) (length graph) (length work)) ≡ refuse r
+
+module _ (bytes class pattern graph work : List ℕ) where
+  abbrev lent : Lent
+  lent = classesLent (length bytes) (length class) (length pattern) (length graph) (length work)
+
+  -- what opening refuses is refused
+  pub comes-refused : (class′ pattern′ : List ℕ) (r : Refusal) → openingRefusal (classesLent (length bytes) (length class) (length pattern) (length graph) (length work)) bytes ≡ some r → Comes bytes class pattern graph work class′ pattern′ (built.Refused r)
+  unfolding openingRefusal called
+  comes-refused class′ pattern′ r e = elim (see (lengths lent)) [
+    | is (some q) p ↦ let z : some q ≡ some r = rw (p, openingRefusal) at e in rw (p, called) (ap refuse (let y : q ≡ r = cc in y))
+    | is none p ↦ elim (see (parse bytes)) [
+      | is (refuse q) f ↦ let z : some q ≡ some r = rw (p, f, openingRefusal) at e in rw (p, f, called) (ap refuse (let y : q ≡ r = cc in y))
+      | is (fine P) f ↦ never (let z : none ≡ some r = rw (p, f, openingRefusal) at e in cc)
+    ]
+  ]
+
+  -- what opens is built
+  module _ (work₁ : List ℕ) (l : lengths (classesLent (length bytes) (length class) (length pattern) (length graph) (length work)) ≡ none) (P : Pack) (f : parse bytes ≡ fine P) (R : Represents bytes work₁ P) (long : length work₁ ≡ length work) (c : Catalog) (e : c ≡ tablesOf (length bytes)) where
+    pub comes-opened : Opened bytes work₁ pattern graph c × (length class < 4294967296) × (length graph < 4294967295)
+    comes-opened =
+        let F = lengths-fit lent l in
+        (opened bytes work₁ pattern graph c e P R (proper bytes P f) (F .pattern) (omega (arith, F .least, long)), omega (arith, F .class), omega (arith, F .graph))
+
+    run : called classRun bytes (classesLent (length bytes) (length class) (length pattern) (length graph) (length work)) ≡ outcome (classesLent (length bytes) (length class) (length pattern) (length graph) (length work)) (classRun P)
+    unfolding called
+    run = rw (l, f, called)
+
+    lends : Lends (classesLent (length bytes) (length class) (length pattern) (length graph) (length work)) class pattern graph
+    lends = record { class-long = refl; words-long = refl; cells-long = refl }
+
+    pub comes-built : (class′ pattern′ : List ℕ) (a : Built) → Builds bytes work₁ class pattern graph class′ pattern′ c a → Comes bytes class pattern graph work class′ pattern′ a
+    comes-built class′ pattern′ (built.Done n m g) B =
+        let A = said bytes work₁ c e (Answered class pattern graph class′ pattern′ n m g) B P f R in
+        (record { pack = P; built = A .built; roots = A .roots }, run ∙ A .is lent lends, A .classes, A .classes-fit, A .patterns, A .patterns-fit, A .counted)
+    comes-built class′ pattern′ (built.Refused x) B = run ∙ said bytes work₁ c e (λ Q. (L : Lent) → Lends L class pattern graph → outcome L (classRun Q) ≡ refuse x) B P f R lent lends
+
+-- zeros behind the words that are the answer
+padded-is : (n : ℕ) (xs ys : List ℕ) (k : ℕ) → length xs ≡ k → take n xs ≡ ys → n ≤ length xs → zeroed n xs ≡ padded k ys
+unfolding zeroed padded
+padded-is n xs ys k l e h = let m : length ys ≡ n = ap length (sym e) ∙ length-take-le n xs h in rw (e, l, m)
+
+-- zeros only
+padded-zero : (xs : List ℕ) (k : ℕ) → length xs ≡ k → zeroed 0 xs ≡ padded k []
+padded-zero xs k l = zeroed-all xs ∙ ap (λ (n : ℕ). replicate n 0) l ∙ sym (padded-none k)
+
+-- what is left is what the definition says
+module _ (bytes class pattern graph work class′ pattern′ graph′ work′ : List ℕ) (c-long : length class′ ≡ length class) (p-long : length pattern′ ≡ length pattern) (g-long : length graph′ ≡ length graph) (w-long : length work′ ≡ length work) where
+  pub left-done : (n m : ℕ) (f : Figures) → Comes bytes class pattern graph work class′ pattern′ (built.Done n m f)
+      → leftOf (record { code = 0; place = 0; figures = f }) (zeroed n class′) (zeroed m pattern′) (zeroed 0 graph′) (zeroed 0 work′) ≡ certClasses bytes (length class) (length pattern) (length graph) (length work)
+  unfolding certClasses answered answer
+  left-done n m f C =
+      rw (C .1, certClasses, answered, padded-is n class′ _ (length class) c-long (C .2) (C .3), padded-is m pattern′ _ (length pattern) p-long (C .4) (C .5), padded-zero graph′ (length graph) g-long, padded-zero work′ (length work) w-long, C .6, padded-none 0)
+
+  pub left-refused : (r : Refusal) (a : Answer) (g : Figures) → Comes bytes class pattern graph work class′ pattern′ (built.Refused r) → a ≡ answer (some r) → g ≡ noFigures
+      → leftOf (record { code = a .code; place = a .place; figures = g }) (zeroed 0 class′) (zeroed 0 pattern′) (zeroed 0 graph′) (zeroed 0 work′) ≡ certClasses bytes (length class) (length pattern) (length graph) (length work)
+  unfolding certClasses refused answer
+  left-refused r a g C e h =
+      rw (C, certClasses, refused, padded-zero class′ (length class) c-long, padded-zero pattern′ (length pattern) p-long, padded-zero graph′ (length graph) g-long, padded-zero work′ (length work) w-long, h, e, padded-none 0)
+
+  -- both clauses, of what stands there in the end
+  module _ (class″ pattern″ graph″ work″ : List ℕ) (n m : ℕ) (zc : class″ ≡ zeroed n class′) (zp : pattern″ ≡ zeroed m pattern′) (zg : graph″ ≡ zeroed 0 graph′) (zw : work″ ≡ zeroed 0 work′) (bytes-are : (i : ℕ) → getD bytes i 0 < 256) where
+    promised : (r : ClassesAnswer) → leftOf r (zeroed n class′) (zeroed m pattern′) (zeroed 0 graph′) (zeroed 0 work′) ≡ certClasses bytes (length class) (length pattern) (length graph) (length work)
+        → (leftOf r class″ pattern″ graph″ work″ ≡ certClasses bytes (length class) (length pattern) (length graph) (length work)) × DemandThree bytes (length class) (length pattern) (length graph) (length work) (leftOf r class″ pattern″ graph″ work″)
+    promised r e =
+        let q : leftOf r class″ pattern″ graph″ work″ ≡ certClasses bytes (length class) (length pattern) (length graph) (length work) = rw (zc, zp, zg, zw) e in
+        (q, subst (DemandThree bytes (length class) (length pattern) (length graph) (length work)) (sym q) (demand-three bytes (bytes-all bytes bytes-are) (length class) (length pattern) (length graph) (length work)))
+
+    pub promised-done : (f : Figures) → Comes bytes class pattern graph work class′ pattern′ (built.Done n m f)
+        → (leftOf (record { code = 0; place = 0; figures = f }) class″ pattern″ graph″ work″ ≡ certClasses bytes (length class) (length pattern) (length graph) (length work))
+        × DemandThree bytes (length class) (length pattern) (length graph) (length work) (leftOf (record { code = 0; place = 0; figures = f }) class″ pattern″ graph″ work″)
+    promised-done f C = promised (record { code = 0; place = 0; figures = f }) (left-done n m f C)
+
+    pub promised-refused : n ≡ 0 → m ≡ 0 → (r : Refusal) (a : Answer) (g : Figures) → Comes bytes class pattern graph work class′ pattern′ (built.Refused r) → a ≡ answer (some r) → g ≡ noFigures
+        → (leftOf (record { code = a .code; place = a .place; figures = g }) class″ pattern″ graph″ work″ ≡ certClasses bytes (length class) (length pattern) (length graph) (length work))
+        × DemandThree bytes (length class) (length pattern) (length graph) (length work) (leftOf (record { code = a .code; place = a .place; figures = g }) class″ pattern″ graph″ work″)
+    promised-refused x y r a g C e h = promised (record { code = a .code; place = a .place; figures = g }) (rw (x, y) (left-refused r a g C e h))
