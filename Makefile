@@ -3,7 +3,8 @@
 # make vectors: record the vectors anew from the Rust original's source, HORN=FOLDER.
 # make bench: time the library beside the Rust original, HORN=FOLDER, and its reader and
 # step check.
-# make host: build the C example, target/host/check, over the library's archive.
+# make host: build the C examples, target/host/check and target/host/classes, over the
+# library's archive.
 HORN ?= ../shared/docs/src
 CARGO = CARGO_TARGET_DIR=$(CURDIR)/target/tools cargo
 TOOLS = target/tools/release
@@ -28,18 +29,19 @@ dock:
 
 host: dock
 	@mkdir -p target/host
-	@cc -std=c99 -Wall -Wextra -pedantic -O2 -Iinclude -o target/host/check examples/check.c target/staticlib/libdock.a
+	@for host in check classes; do \
+	    cc -std=c99 -Wall -Wextra -pedantic -O2 -Iinclude -o target/host/$$host examples/$$host.c examples/host.c target/staticlib/libdock.a || exit 1; \
+	done
 
 bench: tools dock
-	@rt staticlib interner > target/interner.log 2>&1 || { cat target/interner.log; exit 1; }
-	@rt staticlib unifier > target/unifier.log 2>&1 || { cat target/unifier.log; exit 1; }
-	@rt staticlib parser > target/parser.log 2>&1 || { cat target/parser.log; exit 1; }
-	@rt staticlib walker > target/walker.log 2>&1 || { cat target/walker.log; exit 1; }
-	@rt staticlib single > target/single.log 2>&1 || { cat target/single.log; exit 1; }
+	@for crate in interner unifier parser walker; do \
+	    rt staticlib $$crate > target/$$crate.log 2>&1 || { cat target/$$crate.log; exit 1; }; \
+	done
 	@HORN_SRC=$(realpath $(HORN)) RATTLE_LIB=$(CURDIR)/target/staticlib $(CARGO) build --offline --locked --release --quiet --manifest-path tools/Cargo.toml -p bench --features original
 	@$(TOOLS)/bench intern
 	@$(TOOLS)/bench unify --times
 	@$(TOOLS)/bench walk --times
+	@$(TOOLS)/bench classes --times
 	@$(TOOLS)/bench read
 	@$(TOOLS)/bench check
 
@@ -53,6 +55,9 @@ demo: tools host
 	@echo
 	@echo "Verdict on its steps and goals, by the library, called from C (examples/check.c):"
 	@target/host/check examples/nat.pack
+	@echo
+	@echo "Classes of its needed steps, by the library, called from C (examples/classes.c):"
+	@target/host/classes examples/nat.pack
 	@echo
 	@echo "Its goals, proof lines and goal lines as recorded from the Rust original:"
 	@$(TOOLS)/certpack recorded tests/vectors nat

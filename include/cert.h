@@ -106,9 +106,17 @@ struct cert_classes_answer {
  *              none of its class's conclusion
  *   8  buffer  classes (1), pattern (2), graph (3) or work (4) is short
  *
- * Every cell of the four buffers is zero behind a refusal. Behind an 8 lend that buffer
- * longer and call again. If
- * cert_check answers 0 of the pack and the buffers suffice, the answer is 0, each needed
+ * Steps and goals are numbered from 0 in the pack's order. The first that applies is the
+ * answer: lengths over a limit, work, the first bad record, then the run, class by class in
+ * the order of their first steps, then goal by goal; an 8 at 1, 2 or 3 where the run would
+ * write past that buffer, 1 ahead of the first class where the steps' words have no room.
+ * A step's own rule is not tested here: that is cert_check's.
+ *
+ * Every cell of the four buffers is zero behind a refusal. Behind an 8 at 1, 2 or 3 lend
+ * that buffer longer, lend work for the new lengths, and call again. An 8 at a buffer of
+ * 2^24 cells stands: the pack's classes are too many or too large for any.
+ *
+ * If cert_check answers 0 of the pack and the buffers suffice, the answer is 0, each needed
  * step's judgment is an instance of its class's conclusion, and a judgment is one exactly
  * if some derivation of the class's shape concludes it.
  */

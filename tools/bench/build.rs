@@ -1,10 +1,26 @@
 //! Links the library's archives from the folder that RATTLE_LIB names. With the feature
 //! `original` the original's published files are modules where they stand, in the
-//! folder that HORN_SRC names: nothing is added to them, so they run at their own speed.
-//! Behind a copy of the one that has the graph stands a module more, `door`, for the
-//! test of unification.
+//! folder that HORN_SRC names. Of the one that has the graph it is a copy, with a module
+//! more behind it, `door`, for the test of unification, and with three looks at the clock
+//! in `run`, outside its loops: so all run at their own speed.
+#[path = "../beside.rs"]
+mod beside;
+
+use beside::Where::{self, Ahead, Behind};
+use beside::put_beside;
 use std::path::{Path, PathBuf};
 use std::{env, fs, process};
+
+/// Lines of `run` behind or ahead of which the clock is looked at.
+const LAPS: [(Where, &str); 3] = [
+    (
+        Behind,
+        "    let truth = read_truth(spec, &mut ground, proof)?;",
+    ),
+    (Ahead, "    let mut roots = Vec::new();"),
+    (Ahead, "    let emitted = match out {"),
+];
+const LAP: &str = "    crate::clock::lap();";
 
 /// One line, which fails the build.
 fn fail(why: String) -> ! {
@@ -33,12 +49,11 @@ fn named(variable: &str, what: &str, files: &[&str]) -> Vec<PathBuf> {
 fn main() {
     let archives = named(
         "RATTLE_LIB",
-        "the library's archives (it has libdock.a, libinterner.a, libparser.a, libsingle.a, libunifier.a and libwalker.a)",
+        "the library's archives (it has libdock.a, libinterner.a, libparser.a, libunifier.a and libwalker.a)",
         &[
             "libdock.a",
             "libinterner.a",
             "libparser.a",
-            "libsingle.a",
             "libunifier.a",
             "libwalker.a",
         ],
@@ -46,7 +61,7 @@ fn main() {
     if let Some(folder) = archives.first().and_then(|archive| archive.parent()) {
         println!("cargo::rustc-link-search=native={}", folder.display());
     }
-    for archive in ["dock", "interner", "parser", "single", "unifier", "walker"] {
+    for archive in ["dock", "interner", "parser", "unifier", "walker"] {
         println!("cargo::rustc-link-lib=static={archive}");
     }
 
@@ -76,9 +91,12 @@ fn main() {
             let root = env::var_os("CARGO_MANIFEST_DIR")
                 .unwrap_or_else(|| fail("CARGO_MANIFEST_DIR is not set".into()));
             let door = Path::new(&root).join("src/door.rs");
+            let laps = LAPS.iter().map(|(place, anchor)| (place, *anchor, LAP));
+            let clocked =
+                put_beside(&text, laps).unwrap_or_else(|why| fail(format!("generalize.rs: {why}")));
             path = write(
                 "generalize.rs",
-                &format!("{text}\n#[path = {door:?}]\npub(crate) mod door;\n"),
+                &format!("{clocked}\n#[path = {door:?}]\npub(crate) mod door;\n"),
             );
         }
         let name = path.file_stem().unwrap_or_default().display();

@@ -1,14 +1,12 @@
 //! Takes the original's published source from the folder that HORN_SRC names and
-//! adds hooks to it. Nothing of it is changed or left out: each hook is a line put
-//! behind or ahead of a line that must stand there exactly once.
+//! adds hooks to it, each a line beside one of its own.
+#[path = "../beside.rs"]
+mod beside;
+
+use beside::Where::{self, Ahead, Behind};
+use beside::put_beside;
 use std::path::Path;
 use std::{env, fs, process};
-
-enum Where {
-    Behind,
-    Ahead,
-}
-use Where::{Ahead, Behind};
 
 /// File, the line beside which the hook goes, and the hook.
 const HOOKS: &[(&str, Where, &str, &str)] = &[
@@ -121,24 +119,9 @@ fn main() {
         println!("cargo::rerun-if-changed={}", path.display());
         let source =
             fs::read_to_string(&path).unwrap_or_else(|e| fail(format!("{}: {e}", path.display())));
-        let mut lines: Vec<String> = source.lines().map(str::to_owned).collect();
-        for (_, place, anchor, hook) in HOOKS.iter().filter(|h| h.0 == file) {
-            let at: Vec<usize> = (0..lines.len()).filter(|&i| lines[i] == *anchor).collect();
-            let [i] = at[..] else {
-                fail(format!(
-                    "{file} has {} lines `{}`, not one",
-                    at.len(),
-                    anchor.trim()
-                ))
-            };
-            let i = match place {
-                Behind => i + 1,
-                Ahead => i,
-            };
-            lines.insert(i, (*hook).to_owned());
-        }
-        let mut text = lines.join("\n");
-        text.push('\n');
+        let hooks = HOOKS.iter().filter(|hook| hook.0 == file);
+        let hooks = hooks.map(|(_, place, anchor, hook)| (place, *anchor, *hook));
+        let text = put_beside(&source, hooks).unwrap_or_else(|why| fail(format!("{file}: {why}")));
         let target = Path::new(&out).join(file);
         write(&target, &text);
         let name = file.trim_end_matches(".rs");

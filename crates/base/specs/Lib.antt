@@ -1,4 +1,4 @@
--- Laws of bytes in lent buffers.
+-- Laws of parts of a buffer, of what a call leaves as it was, and of probe tables.
 pub mod Part
 pub mod Outside
 pub mod Upto
@@ -7,5 +7,3 @@ pub mod Hash
 pub mod Probe
 pub mod Stack
 pub mod Same
-pub mod Zero
-pub mod Text

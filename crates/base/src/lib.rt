@@ -1,9 +1,6 @@
-// Numbers and bytes in lent buffers.
+// Parts of lent buffers, their words compared and copied; ids, a hash, a stack.
 pub mod copy;
-pub mod decimal;
 pub mod hash;
 pub mod id;
-pub mod little;
 pub mod same;
 pub mod stack;
-pub mod zero;

@@ -16,18 +16,18 @@ use Rattle.definition.specs.Goals.{Root, testGoals}
 use Rattle.definition.specs.Calls.{Classed, classRun}
 use Rattle.definition.specs.declared.Figures.{Figures}
 use Rattle.definition.specs.declared.Refusal.{Refusal}
-use Rattle.store.specs.declared.memo.Memo.{Memo}
+use Rattle.memo.specs.declared.memo.Memo.{Memo}
 use Rattle.store.specs.declared.nodes.Store.{Store}
 use Rattle.catalog.specs.declared.whole.Catalog.{Catalog}
 use Rattle.pack.specs.Held.{OfHeld}
 use Rattle.kept.specs.Runs.{outcome-fine, outcome-refuse, outcome-return-end}
-use Rattle.keys.specs.declared.classes.Keying.{Keying}
-use Rattle.keys.specs.declared.classes.Counts.{Counts}
+use Rattle.key.specs.declared.classes.Keying.{Keying}
+use Rattle.key.specs.declared.classes.Counts.{Counts}
 use Rattle.premise.specs.declared.layout.Layout.{Layout}
 use Rattle.rows.specs.Standing.{Standing}
 use Rattle.derive.specs.Done.{Lends}
-use Rattle.classes.specs.Totals.{Sums}
-use Rattle.classes.specs.declared.totals.Totals.{Totals}
+use Rattle.made.specs.Totals.{Sums}
+use Rattle.made.specs.declared.totals.Totals.{Totals}
 use Rattle.ready.specs.Ready.{Opened, unbuilt}
 use Rattle.build.specs.declared.build.Answer.{Answer}
 use Rattle.build.specs.declared.build.Answer.the-variants as answers

@@ -19,15 +19,15 @@ use Rattle.pack.specs.Reads.{length-nodes, length-steps}
 use Rattle.pack.specs.Held.{reads-on}
 use Rattle.needed.specs.Upto.{upto-same}
 use Rattle.lift.specs.Lifts.{indexIn}
-use Rattle.keys.specs.Words.{endOf}
+use Rattle.key.specs.Words.{endOf}
 use Rattle.keys.specs.Keyed.{KeyedIn, keyed-work-on}
-use Rattle.keys.specs.declared.classes.Keying.{Keying}
-use Rattle.keys.specs.declared.classes.Counts.{Counts}
+use Rattle.key.specs.declared.classes.Keying.{Keying}
+use Rattle.key.specs.declared.classes.Counts.{Counts}
 use Rattle.premise.specs.declared.layout.Layout.{Layout}
 use Rattle.rows.specs.Standing.{liftedOf, standing-held, standing-keyed, standing-behind}
 use Rattle.instance.specs.declared.tables.Instance.{Instance}
 use Rattle.goals.specs.Tests.{Made}
-use Rattle.classes.specs.declared.totals.Totals.{Totals}
+use Rattle.made.specs.declared.totals.Totals.{Totals}
 use Rattle.figures.specs.Figures.{Figured}
 use Rattle.figures.specs.declared.figures.Totals.{Totals as Sums}
 use Rattle.build.specs.Tables.{testTables}

@@ -13,19 +13,19 @@ use Rattle.definition.specs.Calls.{classRun}
 use Rattle.definition.specs.declared.Figures.{Figures}
 use Rattle.definition.specs.declared.Refusal.{Refusal}
 use Rattle.definition.specs.declared.Refusal.the-variants as refusals
-use Rattle.store.specs.declared.memo.Memo.{Memo}
+use Rattle.memo.specs.declared.memo.Memo.{Memo}
 use Rattle.store.specs.declared.nodes.Store.{Store}
 use Rattle.catalog.specs.Whole.{recordsOf, Fits}
 use Rattle.catalog.specs.declared.whole.Catalog.{Catalog}
 use Rattle.pack.specs.Reads.{length-steps}
 use Rattle.pack.specs.Held.{OfHeld}
-use Rattle.keys.specs.declared.classes.Keying.{Keying}
-use Rattle.keys.specs.declared.classes.Counts.{Counts}
+use Rattle.key.specs.declared.classes.Keying.{Keying}
+use Rattle.key.specs.declared.classes.Counts.{Counts}
 use Rattle.premise.specs.declared.layout.Layout.{Layout}
 use Rattle.rows.specs.Standing.{Standing, standing-held}
 use Rattle.derive.specs.Done.{Lends}
 use Rattle.classes.specs.All as all
-use Rattle.classes.specs.declared.totals.Totals.{Totals}
+use Rattle.made.specs.declared.totals.Totals.{Totals}
 use Rattle.classes.specs.declared.all.Building.the-variants as building
 use Rattle.ready.specs.Ready.{Opened, Readies, Starts, unbuilt}
 use Rattle.ready.specs.declared.ready.Ready.the-variants as ready

@@ -12,11 +12,11 @@ use Rattle.definition.specs.Classes.{Built, classWords}
 use Rattle.base.specs.Part.{part}
 use Rattle.store.specs.Words.{begins-take, begins-long}
 use Rattle.store.specs.Stored.{nodes}
-use Rattle.store.specs.declared.memo.Memo.{Memo}
+use Rattle.memo.specs.declared.memo.Memo.{Memo}
 use Rattle.store.specs.declared.nodes.Store.{Store}
 use Rattle.catalog.specs.declared.whole.Catalog.{Catalog}
-use Rattle.keys.specs.declared.classes.Keying.{Keying}
-use Rattle.keys.specs.declared.classes.Counts.{Counts}
+use Rattle.key.specs.declared.classes.Keying.{Keying}
+use Rattle.key.specs.declared.classes.Counts.{Counts}
 use Rattle.premise.specs.declared.layout.Layout.{Layout}
 use Rattle.rows.specs.Words.{width}
 use Rattle.rows.specs.Standing.{Standing, standing-keyed}

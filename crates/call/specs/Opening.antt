@@ -1,10 +1,11 @@
 -- What opening a pack answers, for every pack and all lengths.
-use mathlib.Core.Path.{_≡_, sym}
+use mathlib.Core.Path.{_≡_, sym, ap, _∙_}
 use mathlib.Core.List.{List}
 use mathlib.Core.Option.{Option, none, some}
 use Prim.Native.Nat.{ℕ}
 use native.Mathlib.Omega.{arith}
 use lib.ListN.{length}
+use Rattle.definition.specs.Test.{is, see, never}
 use Rattle.definition.specs.Pack.{Pack}
 use Rattle.definition.specs.Frame.{fine, refuse}
 use Rattle.definition.specs.Parse.{parse}
@@ -31,6 +32,17 @@ Opens l pack work′ Done = (lengths (lentOf l) ≡ none) × (P : Pack) × (pars
 Opens l pack work′ (Refused r) = openingRefusal (lentOf l) pack ≡ some r
 
 module _ (l : Lent) (pack : List ℕ) where
+  -- what opening refuses, the lengths refuse, or they pass and reading the pack refuses it
+  pub refused-by : {X : Type 0} (r : Refusal) → openingRefusal l pack ≡ some r → (lengths l ≡ some r → X) → (lengths l ≡ none → parse pack ≡ refuse r → X) → X
+  unfolding openingRefusal
+  refused-by r e long bad = elim (see (lengths l)) [
+    | is (some q) p ↦ long (p ∙ rw (p, openingRefusal) at e)
+    | is none p ↦ elim (see (parse pack)) [
+      | is (refuse q) f ↦ bad p (let z : some q ≡ some r = rw (p, f, openingRefusal) at e in let y : q ≡ r = cc in f ∙ ap refuse y)
+      | is (fine P) f ↦ never (let z : none ≡ some r = rw (p, f, openingRefusal) at e in cc)
+    ]
+  ]
+
   -- the lengths are refused
   pub lengths-refused : (r : Refusal) → some r ≡ lengths l → openingRefusal l pack ≡ some r
   unfolding openingRefusal

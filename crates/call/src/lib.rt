@@ -1,4 +1,6 @@
-// What every call has in common: the lengths lent to it, tested ahead of the pack, the pack read, and the answer by document 01's table.
+// What calls have in common: the lengths lent to them, tested ahead of the pack, the pack read, the answer by document 01's table, the
+// zeros that they leave.
 pub mod answer;
+pub mod leave;
 pub mod lent;
 pub mod opening;

@@ -1,6 +1,3 @@
--- What the tables of records hold, and their laws.
-pub mod Place
-pub mod Region
-pub mod Laws
+-- What the tables of all kinds of records hold, and their laws.
 pub mod Whole
 pub mod Same

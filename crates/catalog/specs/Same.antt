@@ -6,8 +6,8 @@ use Prim.Native.Nat.{ℕ, _+_, _*_, _≤_, _<_}
 use native.Mathlib.Omega.{arith}
 use lib.ListN.{length, getD}
 use Rattle.base.specs.Part.{part-same}
-use Rattle.catalog.specs.Place.{Place}
-use Rattle.catalog.specs.Region.{sizeFor, places, Kept, Keyed}
+use Rattle.region.specs.Place.{Place}
+use Rattle.region.specs.Region.{sizeFor, places, Kept, Keyed}
 use Rattle.catalog.specs.Whole.{capOf, startOf, regionOf, recordsOf, keyedKind, Fits, Cataloged, region-inside}
 use Rattle.catalog.specs.declared.whole.Catalog.{Catalog}
 

@@ -11,13 +11,13 @@ use lib.Dec.{eqb, ltb}
 use lib.ListN.{length, getD, set, take, drop, length-set}
 use Rattle.definition.specs.Test.{_and_, never}
 use Rattle.base.specs.Part.{part, put, part-at, part-set-behind, part-lent, put-lent, put-part, length-part, part-put, put-before, put-behind, part-put-before, part-put-behind, length-put}
-use Rattle.catalog.specs.Place.{Place, noPlace, keyAt, Framed}
-use Rattle.catalog.specs.Region.{sizeFor, countIn, placeIn, places, Kept, Keyed, Finds, Enters, Entering, Emptied}
-use Rattle.catalog.specs.Laws.{length-places, places-at}
-use Rattle.catalog.specs.declared.region.Entered.{Entered}
-use Rattle.catalog.specs.declared.region.Entered.the-variants.{New, Old}
-use Rattle.catalog.specs.declared.region.Sought.{Sought}
-use Rattle.catalog.specs.declared.region.Sought.the-variants.{At, Nowhere}
+use Rattle.region.specs.Place.{Place, noPlace, keyAt, Framed}
+use Rattle.region.specs.Region.{sizeFor, countIn, placeIn, places, Kept, Keyed, Finds, Enters, Entering, Emptied}
+use Rattle.region.specs.Laws.{length-places, places-at}
+use Rattle.region.specs.declared.region.Entered.{Entered}
+use Rattle.region.specs.declared.region.Entered.the-variants.{New, Old}
+use Rattle.region.specs.declared.region.Sought.{Sought}
+use Rattle.region.specs.declared.region.Sought.the-variants.{At, Nowhere}
 use Rattle.catalog.specs.declared.whole.Catalog.{Catalog}
 
 -- for how many records of a kind there is room: of sorts, symbols and rules (kinds 0 to 2) a pack has at most 256, 4,096 and 4,096

@@ -1,3 +1,2 @@
-// The tables of a pack's records: those of each kind by number, and by key.
-pub mod region;
+// The tables of a pack's records of all kinds.
 pub mod whole;

@@ -1,12 +1,12 @@
 // The regions of all kinds, one behind the other in work. Kinds are counted from 0 here: sorts, symbols, rules, nodes, steps, goals,
 // results, cuts, and the abstract record.
-use crate::region::Entered;
-use crate::region::Sought;
+use region::region::Entered;
+use region::region::Sought;
 ghost use mathlib.Core.Path.{_≡_};
 ghost use mathlib.Core.Bool.{true, false};
 ghost use Prim.Native.Nat.{_<_};
 ghost use lib.ListN.{length, getD};
-ghost use Rattle.catalog.specs.Place.{noPlace};
+ghost use Rattle.region.specs.Place.{noPlace};
 ghost use Rattle.catalog.specs.Whole.{startOf, capOf, recordsOf, keyedKind, Fits, Cataloged, EnteringIn, SoughtIn, EntersIn, More, Cleared};
 
 // Where the first region starts, and for how many records each has room at most.
@@ -84,7 +84,7 @@ impl Catalog {
     {
         let a = self.start(work, kind);
         let cap = self.cap_of(kind);
-        crate::region::find(pack, &work[a..a + (5 * cap + 2)], cap, key)
+        region::region::find(pack, &work[a..a + (5 * cap + 2)], cap, key)
     }
 
     // A record more of a kind with keys, unless one has its key.
@@ -101,7 +101,7 @@ impl Catalog {
     {
         let a = self.start(work, kind);
         let cap = self.cap_of(kind);
-        crate::region::enter(pack, &mut work[a..a + (5 * cap + 2)], cap, at, from)
+        region::region::enter(pack, &mut work[a..a + (5 * cap + 2)], cap, at, from)
     }
 
     // A record more of a kind without keys.
@@ -111,7 +111,7 @@ impl Catalog {
     {
         let a = self.start(work, kind);
         let cap = self.cap_of(kind);
-        crate::region::push(pack, &mut work[a..a + (5 * cap + 2)], cap, at, from);
+        region::region::push(pack, &mut work[a..a + (5 * cap + 2)], cap, at, from);
     }
 
     // No records, with room for `cap` of each kind.
@@ -125,7 +125,7 @@ impl Catalog {
             let a = c.start(work, k);
             let n = c.cap_of(k);
             let keys = has_keys(k);
-            crate::region::clear(&mut work[a..a + (5 * n + 2)], n, keys);
+            region::region::clear(&mut work[a..a + (5 * n + 2)], n, keys);
             k += 1;
         }
         c

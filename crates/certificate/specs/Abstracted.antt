@@ -9,7 +9,7 @@ use Rattle.definition.specs.Pack.{prop, Pack, Abstract, symbolOf, withAbstract}
 use Rattle.definition.specs.Frame.{good}
 use Rattle.definition.specs.Certificate.{takeAbstract}
 use Rattle.definition.specs.Laws.DecideCertificate.{abstract-again, abstract-length, abstract-symbol, abstract-predicate, abstract-position, abstract-taken}
-use Rattle.catalog.specs.Place.{Place, bodyAt}
+use Rattle.region.specs.Place.{Place, bodyAt}
 use Rattle.catalog.specs.Whole.{recordsOf, EnteringIn, More}
 use Rattle.catalog.specs.declared.whole.Catalog.{Catalog}
 use Rattle.pack.specs.Body.{abstractIn}

@@ -11,9 +11,9 @@ use Rattle.definition.specs.Frame.{good}
 use Rattle.definition.specs.Theory.{isName}
 use Rattle.definition.specs.Certificate.{takeGoal}
 use Rattle.definition.specs.Laws.DecideCertificate.{goal-short, goal-node, goal-judgment, goal-misnamed, goal-again, goal-taken}
-use Rattle.catalog.specs.Place.{Place, keyAt, bodyAt}
+use Rattle.region.specs.Place.{Place, keyAt, bodyAt}
 use Rattle.catalog.specs.Whole.{recordsOf, Cataloged, EnteringIn, EntersIn}
-use Rattle.catalog.specs.declared.region.Entered.the-variants.{New, Old}
+use Rattle.region.specs.declared.region.Entered.the-variants.{New, Old}
 use Rattle.catalog.specs.declared.whole.Catalog.{Catalog}
 use Rattle.pack.specs.Body.{goalIn}
 use Rattle.pack.specs.Reads.{Reads, GoalForm, length-nodes, read-goal}

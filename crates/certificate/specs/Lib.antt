@@ -3,6 +3,4 @@ pub mod Node
 pub mod Step
 pub mod Goal
 pub mod Result
-pub mod Marks
-pub mod Cut
 pub mod Abstracted

@@ -15,9 +15,9 @@ use Rattle.definition.specs.Certificate.{isArguments, sameNode, takeNode}
 use Rattle.definition.specs.Laws.Put.{Bytes, put-le, put-words-end, length-words}
 use Rattle.definition.specs.Laws.Decide.{arguments-turn, arguments-outside, arguments-unsorted, arguments-done, nodes-any, nodes-none}
 use Rattle.definition.specs.Laws.DecideCertificate.{node-short, node-head, node-length, node-arguments, node-again, node-taken}
-use Rattle.catalog.specs.Place.{Place, noPlace, keyAt, bodyAt}
+use Rattle.region.specs.Place.{Place, noPlace, keyAt, bodyAt}
 use Rattle.catalog.specs.Whole.{recordsOf, Cataloged, EnteringIn, EntersIn, FindsIn}
-use Rattle.catalog.specs.declared.region.Entered.the-variants.{New, Old}
+use Rattle.region.specs.declared.region.Entered.the-variants.{New, Old}
 use Rattle.catalog.specs.declared.whole.Catalog.{Catalog}
 use Rattle.pack.specs.Body.{bodyOf, nodeIn}
 use Rattle.pack.specs.Laws.{word-from, record-inside}

@@ -11,9 +11,9 @@ use Rattle.definition.specs.Frame.{good}
 use Rattle.definition.specs.Theory.{isName}
 use Rattle.definition.specs.Certificate.{takeResult}
 use Rattle.definition.specs.Laws.DecideCertificate.{result-short, result-step, result-misnamed, result-again, result-taken}
-use Rattle.catalog.specs.Place.{Place, keyAt, bodyAt}
+use Rattle.region.specs.Place.{Place, keyAt, bodyAt}
 use Rattle.catalog.specs.Whole.{recordsOf, EnteringIn, EntersIn}
-use Rattle.catalog.specs.declared.region.Entered.the-variants.{New, Old}
+use Rattle.region.specs.declared.region.Entered.the-variants.{New, Old}
 use Rattle.catalog.specs.declared.whole.Catalog.{Catalog}
 use Rattle.pack.specs.Body.{resultIn}
 use Rattle.pack.specs.Reads.{Reads, GoalForm, length-steps, read-result}

@@ -14,7 +14,7 @@ use Rattle.definition.specs.Theory.{words}
 use Rattle.definition.specs.Certificate.{count, isStep, takeStep}
 use Rattle.definition.specs.Laws.Decide.{steps-all}
 use Rattle.definition.specs.Laws.DecideCertificate.{step-short, step-rule, step-node, step-judgment, step-length, step-ref, step-taken}
-use Rattle.catalog.specs.Place.{Place, bodyAt}
+use Rattle.region.specs.Place.{Place, bodyAt}
 use Rattle.catalog.specs.Whole.{recordsOf, EnteringIn, More}
 use Rattle.catalog.specs.declared.whole.Catalog.{Catalog}
 use Rattle.pack.specs.Body.{bodyOf, stepIn}

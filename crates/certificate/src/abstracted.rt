@@ -1,6 +1,6 @@
 // The abstract record.
 use base::id::Ground;
-use base::little::u32_at;
+use buffer::little::u32_at;
 use catalog::whole::Catalog;
 use horn::taken::Taken;
 use pack::symbol::symbol_arity;

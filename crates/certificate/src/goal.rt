@@ -1,11 +1,11 @@
 // Goals.
 use base::id::Ground;
-use base::little::u32_at;
-use catalog::region::Entered;
+use buffer::little::u32_at;
 use catalog::whole::Catalog;
 use frame::name::is_name;
 use horn::taken::Taken;
 use pack::node::node_sort;
+use region::region::Entered;
 ghost use Rattle.definition.specs.Certificate.{takeGoal};
 ghost use Rattle.horn.specs.Taking.{Reading, Whole, behind, Takes};
 ghost use Rattle.horn.specs.Sound.{Sound};

@@ -1,12 +1,12 @@
 // Ground nodes.
-use base::little::u32_at;
-use catalog::region::Entered;
+use buffer::little::u32_at;
 use catalog::whole::Catalog;
 use frame::row::word;
 use horn::taken::Taken;
 use pack::node::node_sort;
 use pack::symbol::symbol_arity;
 use pack::symbol::symbol_input;
+use region::region::Entered;
 ghost use Rattle.definition.specs.Certificate.{takeNode};
 ghost use Rattle.horn.specs.Taking.{Reading, Whole, behind, Takes};
 ghost use Rattle.horn.specs.Sound.{Sound};

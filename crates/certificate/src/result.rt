@@ -1,9 +1,9 @@
 // Results.
-use base::little::u32_at;
-use catalog::region::Entered;
+use buffer::little::u32_at;
 use catalog::whole::Catalog;
 use frame::name::is_name;
 use horn::taken::Taken;
+use region::region::Entered;
 ghost use Rattle.definition.specs.Certificate.{takeResult};
 ghost use Rattle.horn.specs.Taking.{Reading, Whole, behind, Takes};
 

@@ -1,6 +1,6 @@
 // Steps.
 use base::id::Ground;
-use base::little::u32_at;
+use buffer::little::u32_at;
 use catalog::whole::Catalog;
 use frame::row::all_below;
 use horn::taken::Taken;

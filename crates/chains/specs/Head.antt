@@ -14,7 +14,7 @@ use Rattle.definition.specs.Laws.Grow.{below-at}
 use Rattle.definition.specs.Laws.Suffix.{term-some, judgments-sorted}
 use Rattle.pack.specs.Reads.{ruleWords}
 use Rattle.pack.specs.Held.{Proper}
-use Rattle.pack.specs.Spelt.{Spelt}
+use Rattle.clause.specs.Spelt.{Spelt}
 
 -- the symbol on top of a term; a variable has none
 unfoldable pub topOf : Term → ℕ

@@ -1,6 +1,6 @@
 // The constructors of each sort, chained in the pack's order.
 use crate::chain::put_keyed;
-use base::zero::zero_words;
+use buffer::zero::zero_words;
 use catalog::whole::Catalog;
 use pack::symbol::symbol_output;
 ghost use Prim.Native.Nat.{_≤_};

@@ -1,9 +1,9 @@
 // The predicate that a rule concludes.
 use catalog::whole::Catalog;
-use pack::rule::pass_terms;
-use pack::rule::rule_premises;
-use pack::rule::rule_vars;
-use pack::rule::rule_word;
+use clause::rule::pass_terms;
+use clause::rule::rule_premises;
+use clause::rule::rule_vars;
+use clause::rule::rule_word;
 ghost use mathlib.Core.Path.{_≡_};
 ghost use Prim.Native.Nat.{_<_};
 ghost use lib.ListN.{length};

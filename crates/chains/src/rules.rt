@@ -1,7 +1,7 @@
 // The rules that conclude each predicate, chained in the pack's order.
 use crate::chain::put_keyed;
 use crate::head::rule_head;
-use base::zero::zero_words;
+use buffer::zero::zero_words;
 use catalog::whole::Catalog;
 ghost use Prim.Native.Nat.{_≤_};
 ghost use lib.ListN.{length};

@@ -7,7 +7,7 @@ use native.Mathlib.Omega.{arith}
 use lib.ListN.{length, getD, set, take, drop, replicate}
 use Rattle.definition.specs.Graph.{Graph}
 use Rattle.base.specs.Part.{put}
-use Rattle.base.specs.Zero.{zeros-long, zeros-there, zeros-before, zeros-behind}
+use Rattle.buffer.specs.Zero.{zeros-long, zeros-there, zeros-before, zeros-behind}
 use Rattle.graph.specs.declared.graph.Graph.{Graph as Counts}
 use Rattle.graph.specs.Cells.{rowsEnd, Laid, nodes-few, Shows, SameRows, rows-set, shows-rows, laid-rows, Unchanged, unchanged-same, unchanged-then, unchanged-set}
 use Rattle.graph.specs.Links.{Found}

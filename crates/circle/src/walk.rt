@@ -2,7 +2,7 @@
 // each node, its colour.
 use base::id::Node;
 use base::id::Pattern;
-use base::zero::zero_words;
+use buffer::zero::zero_words;
 use graph::graph::Graph;
 ghost use Prim.Native.Nat.{_+_, _<_, _≤_};
 ghost use lib.ListN.{length};

@@ -17,24 +17,24 @@ use Rattle.theory.specs.Patterns.Interned.{Grows}
 use Rattle.base.specs.Outside.{Outside, outside-none, outside-then, outside-wider}
 use Rattle.store.specs.Stored.{nodes, written}
 use Rattle.store.specs.Table.{begins-written}
-use Rattle.store.specs.declared.memo.Memo.{Memo}
+use Rattle.memo.specs.declared.memo.Memo.{Memo}
 use Rattle.store.specs.declared.nodes.Store.{Store}
 use Rattle.catalog.specs.Whole.{recordsOf}
 use Rattle.catalog.specs.declared.whole.Catalog.{Catalog}
 use Rattle.pack.specs.Reads.{length-steps}
 use Rattle.lift.specs.Runs.{written-again}
 use Rattle.kept.specs.Runs.{outcome-fine, outcome-refuse, outcome-return-end}
-use Rattle.keys.specs.declared.classes.Keying.{Keying}
-use Rattle.keys.specs.declared.classes.Counts.{Counts as KeyCounts}
+use Rattle.key.specs.declared.classes.Keying.{Keying}
+use Rattle.key.specs.declared.classes.Counts.{Counts as KeyCounts}
 use Rattle.premise.specs.declared.layout.Layout.{Layout}
 use Rattle.rows.specs.Words.{width, width-more}
 use Rattle.rows.specs.Standing.{Standing, standing-keyed}
 use Rattle.derive.specs.Done.{Lends, Done, Refused as RefusedRun}
 use Rattle.derive.specs.declared.make.Counted.{Counted}
 use Rattle.classes.specs.Class.{Asks, Making, classRun, Makes}
-use Rattle.classes.specs.Totals.{Addable, summed, noTotals, Sums, Low, sums-none, low-none, sums-more, low-more, addable}
-use Rattle.classes.specs.declared.totals.Totals.{Totals}
-use Rattle.classes.specs.declared.answer.ClassMade.the-variants as one
+use Rattle.made.specs.Totals.{Addable, summed, noTotals, Sums, Low, sums-none, low-none, sums-more, low-more, addable}
+use Rattle.made.specs.declared.totals.Totals.{Totals}
+use Rattle.made.specs.declared.answer.ClassMade.the-variants as one
 use Rattle.classes.specs.declared.all.Building.{Building}
 use Rattle.classes.specs.declared.all.Building.the-variants.{Built as AllBuilt, Refused}
 

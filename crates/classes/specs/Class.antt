@@ -17,20 +17,20 @@ use Rattle.definition.specs.declared.Refusal.the-variants as refusal
 use Rattle.theory.specs.Unification.Circle.{length-upTo}
 use Rattle.base.specs.Outside.{Outside, outside-wider}
 use Rattle.store.specs.Stored.{nodes, written}
-use Rattle.store.specs.declared.memo.Memo.{Memo}
+use Rattle.memo.specs.declared.memo.Memo.{Memo}
 use Rattle.store.specs.declared.nodes.Store.{Store}
 use Rattle.catalog.specs.Whole.{recordsOf}
 use Rattle.catalog.specs.declared.whole.Catalog.{Catalog}
-use Rattle.certificate.specs.Marks.{Marks}
+use Rattle.cuts.specs.Marks.{Marks}
 use Rattle.pack.specs.Reads.{length-rules, length-steps}
 use Rattle.pack.specs.Says.{OfPack}
 use Rattle.pack.specs.Held.{Held, OfHeld}
 use Rattle.instantiate.specs.Count.{up-lent, up-first}
 use Rattle.kept.specs.Firsts.{firstStep, first-given, first-made, cut-made, rule-made, predicate-given}
-use Rattle.keys.specs.Words.{firstIn}
+use Rattle.key.specs.Words.{firstIn}
 use Rattle.keys.specs.Keyed.{keyed-room}
-use Rattle.keys.specs.declared.classes.Keying.{Keying}
-use Rattle.keys.specs.declared.classes.Counts.{Counts as KeyCounts}
+use Rattle.key.specs.declared.classes.Keying.{Keying}
+use Rattle.key.specs.declared.classes.Counts.{Counts as KeyCounts}
 use Rattle.premise.specs.declared.layout.Layout.{Layout}
 use Rattle.premises.specs.declared.premises.Ruling.{Ruling}
 use Rattle.rows.specs.Standing.{Standing, standing-held, standing-keyed}
@@ -41,9 +41,9 @@ use Rattle.derive.specs.Done.{Done, Refused as RefusedRun}
 use Rattle.derive.specs.Making as rules
 use Rattle.derive.specs.declared.make.RuleMade.{RuleMade}
 use Rattle.derive.specs.declared.make.RuleMade.the-variants as rule
-use Rattle.classes.specs.Answer.{ofCut, ofRule}
-use Rattle.classes.specs.declared.answer.ClassMade.{ClassMade}
-use Rattle.classes.specs.declared.answer.ClassMade.the-variants.{Made, Refused}
+use Rattle.made.specs.Answer.{ofCut, ofRule}
+use Rattle.made.specs.declared.answer.ClassMade.{ClassMade}
+use Rattle.made.specs.declared.answer.ClassMade.the-variants.{Made, Refused}
 
 -- ---- what is asked and answered
 -- a step's rule, and how many variables and premises that has

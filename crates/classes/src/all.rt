@@ -1,14 +1,14 @@
 // All classes made, in the order of their first steps.
-use crate::answer::ClassMade;
 use crate::class::make_class;
-use crate::totals::Totals;
-use crate::totals::add_counted;
 use catalog::whole::Catalog;
 use definition::Refusal;
 use instantiate::count::count_up;
-use keys::classes::Keying;
+use key::classes::Keying;
+use made::answer::ClassMade;
+use made::totals::Totals;
+use made::totals::add_counted;
+use memo::memo::Memo;
 use premise::layout::Layout;
-use store::memo::Memo;
 use store::nodes::Store;
 ghost use Rattle.classes.specs.All.{Starting, Beginning, Builds};
 

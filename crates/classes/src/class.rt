@@ -1,20 +1,20 @@
 // One class made: by its predicate if its first step is cut, else by that step's rule.
-use crate::answer::ClassMade;
-use crate::answer::cut_made;
-use crate::answer::rule_made;
 use catalog::whole::Catalog;
+use clause::rule::rule_premises;
+use clause::rule::rule_vars;
 use cut::make::make_cut;
 use derive::make::make_rule;
-use keys::classes::Keying;
-use keys::classes::class_first;
+use key::classes::Keying;
+use key::classes::class_first;
+use made::answer::ClassMade;
+use made::answer::cut_made;
+use made::answer::rule_made;
+use memo::memo::Memo;
 use needed::cut::step_is_cut;
 use needed::cut::step_predicate;
-use pack::rule::rule_premises;
-use pack::rule::rule_vars;
 use pack::step::step_rule;
 use premise::layout::Layout;
 use premises::premises::Ruling;
-use store::memo::Memo;
 use store::nodes::Store;
 ghost use mathlib.Core.Path.{_≡_};
 ghost use Prim.Native.Nat.{_<_};

@@ -1,5 +1,3 @@
 // The classes of a pack's needed steps, made one by one.
 pub mod all;
-pub mod answer;
 pub mod class;
-pub mod totals;

@@ -26,15 +26,15 @@ use Rattle.graph.specs.declared.graph.Graph.{Graph as Counts}
 use Rattle.premise.specs.Layout.{copiesAt}
 use Rattle.premise.specs.Joins.{copiesIn}
 use Rattle.premise.specs.declared.layout.Layout.{Layout}
-use Rattle.root.specs.Words.{Ready, Framed}
-use Rattle.root.specs.Moved.{framed-then, holding-fewer}
+use Rattle.table.specs.Words.{Ready, Framed}
+use Rattle.table.specs.Moved.{framed-then, holding-fewer}
 use Rattle.resolve.specs.Stacks.{Answers}
 use Rattle.root.specs.declared.root.Resolved.the-variants as read
 use Rattle.rows.specs.Standing.{liftedOf}
-use Rattle.conclude.specs.declared.entries.Entries.the-variants as entries
+use Rattle.entries.specs.declared.entries.Entries.the-variants as entries
 use Rattle.conclude.specs.declared.top.Back.{Back}
 use Rattle.conclude.specs.declared.top.Back.the-variants.{Read, Short}
-use Rattle.conclude.specs.Entries.{tableOf, Holds, readFlex, renamed, AllAsked, AllReads}
+use Rattle.entries.specs.Entries.{tableOf, Holds, readFlex, renamed, AllAsked, AllReads}
 use Rattle.conclude.specs.Top.{Topped, Topping, Prepares, prepared, prepared-framed}
 
 -- a node read back with all its variables numbered, nothing being read back before

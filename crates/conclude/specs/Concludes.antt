@@ -33,7 +33,7 @@ use Rattle.catalog.specs.Whole.{recordsOf}
 use Rattle.catalog.specs.declared.whole.Catalog.{Catalog}
 use Rattle.pack.specs.Reads.{Reads, length-nodes}
 use Rattle.pack.specs.Held.{Proper, Held, OfHeld, reads-on}
-use Rattle.pack.specs.Spelt.{Spelt, SpeltAll}
+use Rattle.clause.specs.Spelt.{Spelt, SpeltAll}
 use Rattle.lift.specs.Lifts.{Lifts}
 use Rattle.lift.specs.Nodes.{laid-same}
 use Rattle.graph.specs.declared.graph.Graph.{Graph as Counts}
@@ -41,14 +41,14 @@ use Rattle.graph.specs.declared.graph.Pushed.the-variants.{At, Short as Full}
 use Rattle.graph.specs.Cells.{rowsEnd, Shows, nodes-few}
 use Rattle.graph.specs.Pushes.{cells-shown}
 use Rattle.graph.specs.Inner.{many-nodes}
-use Rattle.copy.specs.Held.{Patterns}
+use Rattle.fresh.specs.Held.{Patterns}
 use Rattle.instantiate.specs.Building.{Spells, Asked, Instantiates}
 use Rattle.premise.specs.Layout.{placeOf, tableIn, copiesAt, Laid, laid-on, laid-cells}
 use Rattle.premise.specs.Joins.{copiesIn}
 use Rattle.premise.specs.Meets.{instantiate-longer}
 use Rattle.premise.specs.declared.layout.Layout.{Layout}
-use Rattle.root.specs.Words.{valuesAt, numbersAt, wordOf, Framed}
-use Rattle.root.specs.Kept.{lifts-on}
+use Rattle.table.specs.Words.{valuesAt, numbersAt, wordOf, Framed}
+use Rattle.table.specs.Kept.{lifts-on}
 use Rattle.rows.specs.Standing.{liftedOf}
 use Rattle.kept.specs.Circles.{Instance, instance}
 use Rattle.kept.specs.FewArgs.{FewArgs, few-instance}
@@ -58,7 +58,7 @@ use Rattle.conclude.specs.declared.conclude.Ending.{Ending}
 use Rattle.conclude.specs.declared.conclude.Concluded.{Concluded}
 use Rattle.conclude.specs.declared.conclude.Conclusion.{Conclusion}
 use Rattle.conclude.specs.declared.conclude.Conclusion.the-variants.{Read, ShortGraph, ShortPatterns}
-use Rattle.conclude.specs.Entries.{tableOf, readFlex, renamed}
+use Rattle.entries.specs.Entries.{tableOf, readFlex, renamed}
 use Rattle.conclude.specs.Top.{Topped, Topping}
 use Rattle.conclude.specs.Back.{readTop}
 use Rattle.conclude.specs.Counted.{numbers-few, numbers-inside, numbers-are, TopRead, TopReads}
@@ -115,8 +115,8 @@ pub record Done (bytes work′ words′ cells cells′ : List ℕ) (c : Catalog)
   pub store : nodes words′ st′ ≡ entriesOf P t env h vs s xs .state .store
   pub grows : Grows s (nodes words′ st′)
   pub patterns : Patterns (nodes words′ st′)
-  pub pattern : r .pattern ≡ getD (conclusionOf P t env h vs s .patterns) 0 0
-  pub stored : r .pattern < length (nodes words′ st′)
+  pub pattern : r .pattern .0 ≡ getD (conclusionOf P t env h vs s .patterns) 0 0
+  pub stored : r .pattern .0 < length (nodes words′ st′)
   pub numbers : part (l .graph + numbersAt cells) (r .numbered) work′ ≡ entriesOf P t env h vs s xs .state .numbering
   pub many : length (entriesOf P t env h vs s xs .state .numbering) ≡ r .numbered
   pub numbered : r .numbered ≤ length cells
@@ -332,7 +332,7 @@ module _ (bytes work words cells : List ℕ) (c : Catalog) (l : Layout) (st : St
           store-is = sym (R .holding .says .store) ∙ ap (λ (z : Numbered). z .store) state-is
 
           -- the pattern is that of the conclusion
-          conclusion-is : conclusionOf P t env h vs (nodes words st) .patterns ≡ r .pattern ∷ []
+          conclusion-is : conclusionOf P t env h vs (nodes words st) .patterns ≡ r .pattern .0 ∷ []
           conclusion-is = ap (λ (y : ℕ). readTop P (instantiate t env h .graph) vs y (nodes words st) .patterns) (sym (built P t h vs H .0)) ∙ R .conclusion
 
           -- the store has patterns still
@@ -345,10 +345,10 @@ module _ (bytes work words cells : List ℕ) (c : Catalog) (l : Layout) (st : St
               subst Patterns (sym store-is) (rest .patterns)
 
           -- and this one
-          pattern-stored : r .pattern < length (nodes words′ st′)
+          pattern-stored : r .pattern .0 < length (nodes words′ st′)
           pattern-stored =
               let d = suc (length (instantiate t env h .graph)) in
-              let b : Below (length (C .state .store)) (r .pattern ∷ []) = subst (Below (length (C .state .store))) conclusion-is (resolve-keeps P (instantiate t env h .graph) vs true d (instantiate t env h .at ∷ []) (numberedAs [] (nodes words st)) .1) in
+              let b : Below (length (C .state .store)) (r .pattern .0 ∷ []) = subst (Below (length (C .state .store))) conclusion-is (resolve-keeps P (instantiate t env h .graph) vs true d (instantiate t env h .at ∷ []) (numberedAs [] (nodes words st)) .1) in
               let m = grows-long (C .state .store) (E .state .store) (resolve-keeps P (instantiate t env h .graph) vs false d (copiesIn work cells l (q .copies)) (C .state) .0 .grows) in
               omega (arith, b .0, m, ap length store-is)
 

@@ -28,8 +28,8 @@ use Rattle.graph.specs.declared.graph.Graph.{Graph as Counts}
 use Rattle.premise.specs.Layout.{copiesAt}
 use Rattle.premise.specs.Joins.{copiesIn}
 use Rattle.premise.specs.declared.layout.Layout.{Layout}
-use Rattle.root.specs.Words.{patternsAt, numbersAt, tableEnd, tableIn, marksIn, wordOf, Framed}
-use Rattle.root.specs.Moved.{table-at, table-long, nodes-most, numbers-most, framed-then, framed-moves, holding-moves}
+use Rattle.table.specs.Words.{patternsAt, numbersAt, tableEnd, tableIn, marksIn, wordOf, Framed}
+use Rattle.table.specs.Moved.{table-at, table-long, nodes-most, numbers-most, framed-then, framed-moves, holding-moves}
 use Rattle.rows.specs.Standing.{liftedOf}
 use Rattle.kept.specs.Resolves.{resolve-length}
 use Rattle.kept.specs.Numbers.{number-any}
@@ -39,7 +39,7 @@ use Rattle.conclude.specs.declared.top.Back.the-variants as back
 use Rattle.conclude.specs.declared.conclude.Concluded.{Concluded}
 use Rattle.conclude.specs.declared.conclude.Conclusion.{Conclusion}
 use Rattle.conclude.specs.declared.conclude.Conclusion.the-variants.{Read, ShortGraph, ShortPatterns}
-use Rattle.conclude.specs.Entries.{tableOf, Holds, readFlex, renamed}
+use Rattle.entries.specs.Entries.{tableOf, Holds, readFlex, renamed}
 use Rattle.conclude.specs.Top.{Topped, Topping}
 use Rattle.conclude.specs.Back.{readTop, BackRead, BackReads}
 
@@ -118,7 +118,7 @@ pub record TopRead (bytes work words cells : List ℕ) (c : Catalog) (l : Layout
   pub state : Resolving
   pub holding : Holds bytes work words cells c l st g (r .numbered) false P h vs state
   pub is : readFlex P h vs xs (readTop P h vs x s .state) .state ≡ state .state
-  pub conclusion : readTop P h vs x s .patterns ≡ r .pattern ∷ []
+  pub conclusion : readTop P h vs x s .patterns ≡ r .pattern .0 ∷ []
   pub entries : r .entries ≡ length (readFlex P h vs xs (readTop P h vs x s .state) .patterns)
   pub renamings : r .renamings ≡ countOf (renamed (readFlex P h vs xs (readTop P h vs x s .state) .state .store)) (readFlex P h vs xs (readTop P h vs x s .state) .patterns)
   pub fixed : r .fixed ≡ countOf (isFixed h vs (readFlex P h vs xs (readTop P h vs x s .state) .state .numbering)) (upTo (length h))
@@ -149,7 +149,7 @@ module _ (bytes work words cells : List ℕ) (c : Catalog) (l : Layout) (st : St
 
   -- they were
   pub counted : (work′ : List ℕ) (f : ℕ) → CountsFixed work₁ work′ cells (tableOf l) g n f
-      → TopReads bytes work words work′ words₁ cells c l st before g x copies (Read g st₁ (record { pattern = p .0; numbered = n; entries = copies; renamings = k; fixed = f }))
+      → TopReads bytes work words work′ words₁ cells c l st before g x copies (Read g st₁ (record { pattern = p; numbered = n; entries = copies; renamings = k; fixed = f }))
   counted work′ f F =
       let b₀ = held (K .pack) (K .graph) (K .values) (K .topped) in (
         framed-then cells work work₁ work′ (liftedOf l) (tableOf l) (B .0) (framed-moves bytes work₁ words₁ cells c (liftedOf l) (tableOf l) st₁ g work′ (F .0) (K .pack) (K .graph) (K .values) (b₀ .holding .lies)),

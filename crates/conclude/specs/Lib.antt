@@ -1,5 +1,4 @@
 -- A rule's conclusion behind its premises: what is asked, and what is answered.
-pub mod Entries
 pub mod Top
 pub mod Back
 pub mod Counted

@@ -16,7 +16,7 @@ use Rattle.theory.specs.Walks.Reading.{numberedAs}
 use Rattle.theory.specs.Walks.Resolving.{resolving}
 use Rattle.base.specs.Part.{part, put, part-at}
 use Rattle.base.specs.Outside.{Outside}
-use Rattle.base.specs.Zero.{zeros-long, zeros-there, zeros-before, zeros-behind}
+use Rattle.buffer.specs.Zero.{zeros-long, zeros-there, zeros-before, zeros-behind}
 use Rattle.store.specs.Stored.{nodes}
 use Rattle.store.specs.declared.nodes.Store.{Store}
 use Rattle.catalog.specs.Whole.{recordsOf}
@@ -31,12 +31,12 @@ use Rattle.graph.specs.Cells.{Shows, nodes-few, shows-rows}
 use Rattle.premise.specs.Layout.{tableIn, Laid}
 use Rattle.premise.specs.Joins.{copiesIn, rows-outside}
 use Rattle.premise.specs.declared.layout.Layout.{Layout}
-use Rattle.root.specs.Words.{valuesAt, tableEnd, wordOf, Lies, Framed}
-use Rattle.root.specs.Kept.{lifts-on}
+use Rattle.table.specs.Words.{valuesAt, tableEnd, wordOf, Lies, Framed}
+use Rattle.table.specs.Kept.{lifts-on}
 use Rattle.resolve.specs.Stacks.{Clears}
 use Rattle.rows.specs.Standing.{liftedOf}
 use Rattle.kept.specs.FewArgs.{FewArgs}
-use Rattle.conclude.specs.Entries.{tableOf, Holds}
+use Rattle.entries.specs.Entries.{tableOf, Holds}
 
 -- ---- what is asked
 -- a pack, a graph without circles, values of its first nodes and of no others, a node, and variables of copies

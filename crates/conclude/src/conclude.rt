@@ -2,16 +2,17 @@
 use crate::top::Back;
 use crate::top::read_back;
 use base::id::Node;
+use base::id::Pattern;
 use catalog::whole::Catalog;
+use clause::rule::pass_terms;
 use fixed::count::count_fixed;
 use graph::graph::Graph;
 use graph::graph::Pushed;
 use instantiate::terms::Place;
 use instantiate::terms::instantiate;
-use pack::rule::pass_terms;
 use premise::layout::Layout;
-use root::words::Table;
 use store::nodes::Store;
+use table::words::Table;
 ghost use Rattle.conclude.specs.Top.{Topping};
 ghost use Rattle.conclude.specs.Counted.{TopReads};
 ghost use Rattle.conclude.specs.Concludes.{Concluding, Concludes};
@@ -26,7 +27,7 @@ pub struct Ending {
 
 // What was read: the conclusion's pattern, how many variables are numbered, and what figures count.
 pub struct Concluded {
-    pub pattern: u32,
+    pub pattern: Pattern,
     pub numbered: usize,
     pub entries: usize,
     pub renamings: usize,
@@ -65,7 +66,7 @@ fn read_top(
             };
             let fixed = count_fixed(work, cells, t, g, n);
             let read = Concluded {
-                pattern: p.0,
+                pattern: p,
                 numbered: n,
                 entries: copies,
                 renamings: k,

@@ -1,21 +1,21 @@
 // The instance of a rule's conclusion read back, then the variables of the copies.
-use crate::entries::Entries;
-use crate::entries::read_entries;
 use base::id::Node;
 use base::id::Pattern;
-use base::zero::zero_words;
+use buffer::zero::zero_words;
 use catalog::whole::Catalog;
+use entries::entries::Entries;
+use entries::entries::read_entries;
 use graph::graph::Graph;
 use lift::walk::Lifted;
 use premise::layout::Layout;
 use resolve::walk::clear;
 use resolve::walk::resolve;
 use root::root::Resolved;
-use root::words::Table;
 use store::nodes::Store;
+use table::words::Table;
 ghost use Prim.Native.Nat.{_+_, _≤_};
 ghost use lib.ListN.{length};
-ghost use Rattle.root.specs.Words.{tableEnd};
+ghost use Rattle.table.specs.Words.{tableEnd};
 ghost use Rattle.conclude.specs.Top.{Prepares, Topping};
 ghost use Rattle.conclude.specs.Back.{BackReads};
 

@@ -7,12 +7,13 @@ use native.Mathlib.Omega.{arith}
 use lib.ListN.{length, getD, set, replicate, length-set, length-replicate}
 use lib.Seq.{getD-set-same, getD-set-other}
 use Rattle.base.specs.Part.{part, put}
-use Rattle.store.specs.Recall.{recall, Remembers}
-use Rattle.store.specs.declared.memo.Memo.{Memo}
-use Rattle.copy.specs.declared.walk.Copying.{Copying}
-use Rattle.copy.specs.Held.{tableIn}
-use Rattle.copy.specs.Steps.{Outside, Begins}
-use Rattle.copy.specs.Writes.{outside-then, outside-wider, outside-set, outside-put, back, back-at, part-ahead}
+use Rattle.memo.specs.Recall.{recall, Remembers}
+use Rattle.memo.specs.declared.memo.Memo.{Memo}
+use Rattle.fresh.specs.declared.node.Copying.{Copying}
+use Rattle.fresh.specs.Held.{tableIn}
+use Rattle.fresh.specs.Steps.{Outside}
+use Rattle.copy.specs.Frames.{Begins}
+use Rattle.fresh.specs.Writes.{outside-then, outside-wider, outside-set, outside-put, back, back-at, part-ahead}
 
 module _ (work flex : List ℕ) (l : Copying) (p : ℕ) (memo : Memo) (up : l .copied ≤ l .walk) (room : l .walk + 2 ≤ l .variables) (fits : l .variables + length flex ≤ length work)
     (table zs : List ℕ) (long : length table ≡ length (tableIn work l)) where

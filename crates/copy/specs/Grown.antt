@@ -27,15 +27,15 @@ use Rattle.theory.specs.Walks.CopyWalk.{isCopied, copyAt}
 use Rattle.base.specs.Part.{part, part-same, length-part}
 use Rattle.store.specs.Words.{keyOf, words-most, begins-long}
 use Rattle.store.specs.Stored.{Stored, nodes}
-use Rattle.store.specs.Recall.{recall, length-recall, Remembers}
+use Rattle.memo.specs.Recall.{recall, length-recall, Remembers}
 use Rattle.store.specs.declared.nodes.Store.{Store}
-use Rattle.store.specs.declared.memo.Memo.{Memo}
+use Rattle.memo.specs.declared.memo.Memo.{Memo}
 use Rattle.graph.specs.Cells.{Shows, cells-more}
 use Rattle.graph.specs.Inner.{inner-more}
-use Rattle.copy.specs.declared.walk.Copying.{Copying}
-use Rattle.copy.specs.Held.{indexIn, tableIn, rowsAt, rowsIn, Apart, Room, Patterns, marksIn, valueIn, orZero, copyIn, wordOf, Holding, Beside}
-use Rattle.copy.specs.Steps.{Outside, noted, vertexFor, numberFor, Key, Finished, Unfinished}
-use Rattle.copy.specs.Writes.{part-ahead, part-after}
+use Rattle.fresh.specs.declared.node.Copying.{Copying}
+use Rattle.fresh.specs.Held.{indexIn, tableIn, rowsAt, rowsIn, Apart, Room, Patterns, marksIn, valueIn, orZero, copyIn, wordOf, Holding, Beside}
+use Rattle.fresh.specs.Steps.{Outside, noted, vertexFor, numberFor, Key, Finished, Unfinished}
+use Rattle.fresh.specs.Writes.{part-ahead, part-after}
 use Rattle.base.specs.declared.id.Node.{Node as Id}
 use Rattle.graph.specs.declared.graph.Graph.{Graph as Counts}
 

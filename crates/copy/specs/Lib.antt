@@ -1,8 +1,5 @@
--- Copying a pattern into the graph: what the words hold meanwhile, one node's copy, one turn of the walk, and the run.
-pub mod Held
-pub mod Steps
-pub mod Writes
-pub mod Nodes
+-- Copying a pattern into the graph: one turn of the walk, and the run.
+pub mod Frames
 pub mod Begun
 pub mod Grown
 pub mod Turns

@@ -17,13 +17,13 @@ use Rattle.theory.specs.Walks.Machine.{Frame, frame, left, turn-kept, left-none
 use Rattle.theory.specs.Walks.WalkOnce.{unfinished}
 use Rattle.theory.specs.Walks.CopyWalk.{isCopied, copyAt, copy-made, copy-others}
 use Rattle.store.specs.Stored.{nodes}
-use Rattle.store.specs.Recall.{recall}
+use Rattle.memo.specs.Recall.{recall}
 use Rattle.store.specs.declared.nodes.Store.{Store}
-use Rattle.store.specs.declared.memo.Memo.{Memo}
-use Rattle.copy.specs.declared.walk.Copying.{Copying}
-use Rattle.copy.specs.declared.walk.Turn.the-variants as turns
-use Rattle.copy.specs.Held.{tableIn, Patterns, marksIn, Holding, framesIn, Going, Ready, Beside}
-use Rattle.copy.specs.Steps.{turnOf, leftOf, Advances, Runs}
+use Rattle.memo.specs.declared.memo.Memo.{Memo}
+use Rattle.fresh.specs.declared.node.Copying.{Copying}
+use Rattle.fresh.specs.declared.node.Turn.the-variants as turns
+use Rattle.fresh.specs.Held.{tableIn, Patterns, marksIn, Holding, framesIn, Going, Ready, Beside}
+use Rattle.copy.specs.Frames.{turnOf, leftOf, Advances, Runs}
 use Rattle.graph.specs.Cells.{cells-more}
 use Rattle.copy.specs.Grown.{copied-is}
 use Rattle.copy.specs.Turns.{length-frames}

@@ -20,13 +20,14 @@ use Rattle.theory.specs.Walks.WalkReady.{Sound, turn-going}
 use Rattle.theory.specs.Walks.CopyWalk.{isCopied, copyAt, copy-made, copy-others}
 use Rattle.store.specs.Words.{keyOf}
 use Rattle.store.specs.Stored.{nodes}
-use Rattle.store.specs.Recall.{recall}
+use Rattle.memo.specs.Recall.{recall}
 use Rattle.store.specs.declared.nodes.Store.{Store}
-use Rattle.store.specs.declared.memo.Memo.{Memo}
-use Rattle.copy.specs.declared.walk.Copying.{Copying}
-use Rattle.copy.specs.Held.{tableIn, Patterns, marksIn, valueIn, Holding, framesIn, Going}
-use Rattle.copy.specs.Steps.{Outside, Key, turnOf}
-use Rattle.copy.specs.Writes.{outside-then, outside-set}
+use Rattle.memo.specs.declared.memo.Memo.{Memo}
+use Rattle.fresh.specs.declared.node.Copying.{Copying}
+use Rattle.fresh.specs.Held.{tableIn, Patterns, marksIn, valueIn, Holding, framesIn, Going}
+use Rattle.fresh.specs.Steps.{Outside, Key}
+use Rattle.copy.specs.Frames.{turnOf}
+use Rattle.fresh.specs.Writes.{outside-then, outside-set}
 use Rattle.copy.specs.Grown.{nodes-most, memo-room, key-copied, copied-is}
 use Rattle.graph.specs.declared.graph.Graph.{Graph as Counts}
 

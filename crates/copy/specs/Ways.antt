@@ -20,16 +20,17 @@ use Rattle.theory.specs.Walks.Machine.{frame, Walking, turn}
 use Rattle.theory.specs.Walks.CopyWalk.{copyAt}
 use Rattle.store.specs.Words.{keyOf, nodeWith}
 use Rattle.store.specs.Stored.{nodes}
-use Rattle.store.specs.Recall.{recall}
+use Rattle.memo.specs.Recall.{recall}
 use Rattle.store.specs.declared.nodes.Store.{Store}
-use Rattle.store.specs.declared.memo.Memo.{Memo}
-use Rattle.copy.specs.declared.walk.Copying.{Copying}
-use Rattle.copy.specs.declared.walk.Turn.the-variants as turns
-use Rattle.store.specs.Recall.{Remembers}
+use Rattle.memo.specs.declared.memo.Memo.{Memo}
+use Rattle.fresh.specs.declared.node.Copying.{Copying}
+use Rattle.fresh.specs.declared.node.Turn.the-variants as turns
+use Rattle.memo.specs.Recall.{Remembers}
 use Rattle.graph.specs.Links.{Holds}
-use Rattle.copy.specs.declared.walk.Turn.{Turn}
-use Rattle.copy.specs.Held.{tableIn, rowsIn, Apart, marksIn, valueIn, framesIn, Ready, Beside}
-use Rattle.copy.specs.Steps.{Finished, Unfinished, Finishes, Deeper, Deepens, Key, Advances}
+use Rattle.fresh.specs.declared.node.Turn.{Turn}
+use Rattle.fresh.specs.Held.{tableIn, rowsIn, Apart, marksIn, valueIn, framesIn, Ready, Beside}
+use Rattle.fresh.specs.Steps.{Finished, Unfinished, Finishes, Key}
+use Rattle.copy.specs.Frames.{Deeper, Deepens, Advances}
 use Rattle.copy.specs.Grown.{holding-stack, short-more, holding-more}
 use Rattle.copy.specs.Turns.{turn-inside, turn-known, turn-key, frames-same, entering, entering-outside, entering-frames, turn-room, turn-given, going-on, dropped, entered, finished, entered-room, all-known}
 use Rattle.graph.specs.declared.graph.Graph.{Graph as Counts}

@@ -16,18 +16,18 @@ use Rattle.theory.specs.Walks.WalkReady.{Sound, sound-new}
 use Rattle.theory.specs.Walks.CopyWalk.{noCopy, isCopied, copyAt, copy-made, copy-others, copy-walk}
 use Rattle.base.specs.Part.{part, part-at, length-part}
 use Rattle.store.specs.Stored.{Stored, nodes}
-use Rattle.store.specs.Recall.{recall}
+use Rattle.memo.specs.Recall.{recall}
 use Rattle.store.specs.declared.nodes.Store.{Store}
-use Rattle.store.specs.declared.memo.Memo.{Memo}
+use Rattle.memo.specs.declared.memo.Memo.{Memo}
 use Rattle.graph.specs.Cells.{restAt, startIn, Shows, rowsEnd, nodes-few, graph-kept}
 use Rattle.graph.specs.Inner.{Inner}
-use Rattle.copy.specs.declared.walk.Copying.{Copying}
-use Rattle.copy.specs.declared.walk.Turn.{Turn}
-use Rattle.copy.specs.declared.walk.Turn.the-variants as turns
-use Rattle.copy.specs.declared.walk.Copied.the-variants as answers
-use Rattle.copy.specs.Held.{indexIn, tableIn, rowsAt, rowsIn, graphIn, copyIn, marksIn, Apart, Given, Holding, Going, Ready, framesIn, Beside, Copies}
-use Rattle.copy.specs.Steps.{leftOf, Runs, Begins}
-use Rattle.copy.specs.Writes.{part-ahead}
+use Rattle.fresh.specs.declared.node.Copying.{Copying}
+use Rattle.fresh.specs.declared.node.Turn.{Turn}
+use Rattle.fresh.specs.declared.node.Turn.the-variants as turns
+use Rattle.fresh.specs.declared.node.Copied.the-variants as answers
+use Rattle.fresh.specs.Held.{indexIn, tableIn, rowsAt, rowsIn, graphIn, copyIn, marksIn, Apart, Given, Holding, Going, Ready, framesIn, Beside, Copies}
+use Rattle.copy.specs.Frames.{leftOf, Runs, Begins}
+use Rattle.fresh.specs.Writes.{part-ahead}
 use Rattle.copy.specs.Grown.{copy-is, memo-room}
 use Rattle.base.specs.declared.id.Node.{Node as Id}
 use Rattle.graph.specs.declared.graph.Graph.{Graph as Counts}

@@ -19,7 +19,7 @@ use Rattle.pack.specs.Held.{OfHeld}
 use Rattle.lift.specs.Lifts.{Lifts, Apart}
 use Rattle.lift.specs.Runs.{written-again, words-grow}
 use Rattle.lift.specs.declared.walk.Lifted.{Lifted}
-use Rattle.root.specs.Kept.{Interns}
+use Rattle.table.specs.Kept.{Interns}
 use Rattle.kept.specs.Interns.{cutTop}
 use Rattle.cut.specs.Fresh.{variablesOf, Freshened, Unfreshened, apart-both}
 

@@ -1,5 +1,4 @@
 -- What making a cut class owes to the definition.
 pub mod Fresh
 pub mod Conclusion
-pub mod Marks
 pub mod Making

@@ -20,19 +20,19 @@ use Rattle.base.specs.Outside.{Outside}
 use Rattle.base.specs.declared.id.Pattern.{Pattern}
 use Rattle.store.specs.Words.{begins-long}
 use Rattle.store.specs.Stored.{nodes, written}
-use Rattle.store.specs.Recall.{Remembers}
-use Rattle.store.specs.declared.memo.Memo.{Memo}
+use Rattle.memo.specs.Recall.{Remembers}
+use Rattle.memo.specs.declared.memo.Memo.{Memo}
 use Rattle.store.specs.declared.nodes.Store.{Store}
 use Rattle.catalog.specs.Whole.{recordsOf}
 use Rattle.catalog.specs.declared.whole.Catalog.{Catalog}
 use Rattle.pack.specs.Reads.{Reads, length-symbols}
 use Rattle.pack.specs.Says.{Readable, OfPack}
 use Rattle.pack.specs.Held.{Proper, reads-on}
-use Rattle.copy.specs.Held.{Patterns}
+use Rattle.fresh.specs.Held.{Patterns}
 use Rattle.kept.specs.Interns.{Interning, cutTop, cut-patterns}
 use Rattle.kept.specs.Variables.{VariablesBelow, variables-cut}
-use Rattle.keys.specs.declared.classes.Keying.{Keying}
-use Rattle.keys.specs.declared.classes.Counts.{Counts}
+use Rattle.key.specs.declared.classes.Keying.{Keying}
+use Rattle.key.specs.declared.classes.Counts.{Counts}
 use Rattle.lift.specs.Nodes.{laid-same}
 use Rattle.premise.specs.declared.layout.Layout.{Layout}
 use Rattle.rows.specs.Standing.{liftedOf, Standing}
@@ -41,7 +41,7 @@ use Rattle.rows.specs.More.{standing-more}
 use Rattle.rows.specs.Grown.{Grown, grown-count, grown-counted, grown-inside, grown-place, grown-adds}
 use Rattle.cut.specs.Fresh.{inputsOf}
 use Rattle.cut.specs.Conclusion.{Concluded, Unconcluded}
-use Rattle.cut.specs.Marks.{Writing, Writes, writes-row}
+use Rattle.cutrow.specs.Marks.{Writing, Writes, writes-row}
 use Rattle.cut.specs.declared.make.CutMade.{CutMade}
 use Rattle.cut.specs.declared.make.CutMade.the-variants as made
 

@@ -4,16 +4,16 @@ use catalog::whole::Catalog;
 use lift::walk::Lifted;
 use pack::symbol::symbol_arity;
 use pack::symbol::symbol_input;
-use root::words::intern_key;
 use store::nodes::Interned;
 use store::nodes::Store;
+use table::words::intern_key;
 ghost use mathlib.Core.List.{[], _∷_};
 ghost use Prim.Native.Nat.{_<_};
 ghost use lib.ListN.{length};
 ghost use Rattle.definition.specs.Store.{variableHead};
 ghost use Rattle.catalog.specs.Whole.{recordsOf};
 ghost use Rattle.lift.specs.Lifts.{Lifts};
-ghost use Rattle.root.specs.Kept.{Indexed, Interns};
+ghost use Rattle.table.specs.Kept.{Indexed, Interns};
 ghost use Rattle.cut.specs.Fresh.{Starts, Freshens};
 ghost use Rattle.cut.specs.Conclusion.{Concludes};
 

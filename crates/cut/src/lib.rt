@@ -1,4 +1,3 @@
 // Cut classes: a predicate over distinct flexible variables.
 pub mod conclusion;
 pub mod make;
-pub mod row;

@@ -1,8 +1,8 @@
 // A cut class made: its conclusion in the store, then its row.
 use crate::conclusion::cut_conclusion;
-use crate::row::write_cut;
 use catalog::whole::Catalog;
-use keys::classes::Keying;
+use cutrow::row::write_cut;
+use key::classes::Keying;
 use lift::walk::Lifted;
 use pack::symbol::symbol_arity;
 use premise::layout::Layout;
@@ -45,7 +45,7 @@ pub fn make_cut(
             if class.len() - fill < 3 + n {
                 return CutMade::ShortRows;
             }
-            write_cut(work, class, k, l, fill, i, q.0, n);
+            write_cut(work, class, k, l, fill, i, q, n);
             CutMade::Made(more, fill + 3 + n)
         }
         Interned::Short => CutMade::ShortPatterns,

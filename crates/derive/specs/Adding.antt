@@ -25,19 +25,19 @@ use Rattle.base.specs.Part.{part, length-part, part-same}
 use Rattle.base.specs.Outside.{Outside}
 use Rattle.store.specs.Words.{begins-long}
 use Rattle.store.specs.Stored.{nodes, written}
-use Rattle.store.specs.Recall.{Remembers}
-use Rattle.store.specs.declared.memo.Memo.{Memo}
+use Rattle.memo.specs.Recall.{Remembers}
+use Rattle.memo.specs.declared.memo.Memo.{Memo}
 use Rattle.store.specs.declared.nodes.Store.{Store}
 use Rattle.catalog.specs.Whole.{recordsOf}
 use Rattle.catalog.specs.declared.whole.Catalog.{Catalog}
 use Rattle.pack.specs.Reads.{length-nodes}
 use Rattle.pack.specs.Held.{Proper}
-use Rattle.pack.specs.Spelt.{words-most}
+use Rattle.clause.specs.Spelt.{words-most}
 use Rattle.instantiate.specs.Building.{Spells}
 use Rattle.graph.specs.declared.graph.Graph.{Graph as Counts}
 use Rattle.graph.specs.Cells.{nodes-few}
-use Rattle.keys.specs.declared.classes.Keying.{Keying}
-use Rattle.keys.specs.declared.classes.Counts.{Counts as KeyCounts}
+use Rattle.key.specs.declared.classes.Keying.{Keying}
+use Rattle.key.specs.declared.classes.Counts.{Counts as KeyCounts}
 use Rattle.kept.specs.Runs.{outcome-note, outcome-short}
 use Rattle.kept.specs.Resolves.{resolve-most}
 use Rattle.kept.specs.Variables.{VariablesBelow, bounded-then, resolve-bounded}
@@ -49,8 +49,8 @@ use Rattle.rows.specs.Standing.{Standing, standing-cells}
 use Rattle.rows.specs.Added.{builtWith, add-short-patterns, add-short-row, add-fine}
 use Rattle.rows.specs.More.{standing-more}
 use Rattle.rows.specs.Grown.{Grown, grown-count, grown-counted, grown-place, grown-adds}
-use Rattle.root.specs.Asked.{graph-long}
-use Rattle.conclude.specs.Entries.{renamed}
+use Rattle.table.specs.Asked.{graph-long}
+use Rattle.entries.specs.Entries.{renamed}
 use Rattle.conclude.specs.Beyond.{valued-beyond}
 use Rattle.conclude.specs.Concludes.{Here, Concluding, Concludes}
 use Rattle.conclude.specs.Concludes as concluded
@@ -61,7 +61,7 @@ use Rattle.rules.specs.Stages.{topOf, conclusionOf, entriesOf, classOf, rest}
 use Rattle.rules.specs.Valuing.{Valued-as}
 use Rattle.derive.specs.declared.make.RuleMade.{RuleMade}
 use Rattle.derive.specs.declared.make.RuleMade.the-variants.{Made, Clash, Circle, Differs, ShortGraph, ShortPatterns, ShortRows}
-use Rattle.derive.specs.Marks.{Numbered as Marks, Writing, Writes, writes-row}
+use Rattle.marks.specs.Marks.{Numbered as Marks, Writing, Writes, writes-row}
 use Rattle.derive.specs.Done.{Few, Done, Refused}
 
 -- ---- what is asked and answered
@@ -326,7 +326,7 @@ module _ (bytes work class words cells : List ℕ) (c : Catalog) (k : Keying) (l
               numbered = marks;
             }
 
-        module _ (work₂ class₂ : List ℕ) (flex : ℕ) (W : Writes work₁ class work₂ class₂ cells₁ k l g₁ fill i (q .pattern) (q .numbered) flex) where
+        module _ (work₂ class₂ : List ℕ) (flex : ℕ) (W : Writes work₁ class work₂ class₂ cells₁ k l g₁ fill i (q .pattern .0) (q .numbered) flex) where
           -- nothing else was written
           places : Outside (l .rows) (l .end) work work₂
           places =
@@ -369,10 +369,10 @@ module _ (bytes work class words cells : List ℕ) (c : Catalog) (k : Keying) (l
           done =
               let count = grown-count bytes work class words cells work₁ words₁ c k l r st st₁ memo memo fill P b x S grown one-more in
               let j = length (b .classes) in
-              let Y : Writes work₁ class work₂ class₂ cells₁ k l g₁ fill (length (b .classes)) (q .pattern) (q .numbered) flex = subst (λ (m : ℕ). Writes work₁ class work₂ class₂ cells₁ k l g₁ fill m (q .pattern) (q .numbered) flex) (Z .number) W in
-              let R = writes-row work₁ class work₂ class₂ cells₁ k l g₁ fill j (q .pattern) (q .numbered) flex x (topOf P (u .rule) (u .vars) ps .graph) (entriesOf P b (u .rule) (u .vars) ps vs .state .numbering) Y marks
+              let Y : Writes work₁ class work₂ class₂ cells₁ k l g₁ fill (length (b .classes)) (q .pattern .0) (q .numbered) flex = subst (λ (m : ℕ). Writes work₁ class work₂ class₂ cells₁ k l g₁ fill m (q .pattern .0) (q .numbered) flex) (Z .number) W in
+              let R = writes-row work₁ class work₂ class₂ cells₁ k l g₁ fill j (q .pattern .0) (q .numbered) flex x (topOf P (u .rule) (u .vars) ps .graph) (entriesOf P b (u .rule) (u .vars) ps vs .state .numbering) Y marks
               (read .pattern) refl (sym (read .many)) (getD (keysOf P .classes) j noKeyed .count) count in
-              let D = grown-adds bytes work class words cells work₁ words₁ c k l r st st₁ memo memo fill P b x S grown one-more work₂ (Y .between) class₂ (q .pattern) _ (q .numbered) (Y .begun) R in
+              let D = grown-adds bytes work class words cells work₁ words₁ c k l r st st₁ memo memo fill P b x S grown one-more work₂ (Y .between) class₂ (q .pattern .0) _ (q .numbered) (Y .begun) R in
               let e : fill + 3 + length (x .flex) ≡ fill + 3 + q .numbered = ap (λ (m : ℕ). fill + 3 + m) many in
               record {
                 built = builtWith b (nodes words₁ st₁) x;
@@ -433,7 +433,7 @@ module _ (bytes work class words cells : List ℕ) (c : Catalog) (k : Keying) (l
         adding-writes = writing (K .counts) (K .pack) (K .built) (K .refs) (K .state) (K .solved) work₁ words₁ cells₁ g₁ st₁ q more-words more-cells C h (K .small)
 
         -- the class is made
-        pub adds : (work₂ class₂ : List ℕ) (flex : ℕ) → Writes work₁ class work₂ class₂ cells₁ k l g₁ fill i (q .pattern) (q .numbered) flex
+        pub adds : (work₂ class₂ : List ℕ) (flex : ℕ) → Writes work₁ class work₂ class₂ cells₁ k l g₁ fill i (q .pattern .0) (q .numbered) flex
             → Adds bytes work class words cells work₂ class₂ words₁ cells₁ c k l st memo g env u from copies fill i (Made st₁ memo (fill + 3 + q .numbered) (record { vars = q .numbered; flex = flex; fixed = q .fixed; entries = q .entries; renamings = q .renamings }))
         adds work₂ class₂ flex W = (
           (λ r P b refs ps Z. done r P b refs ps Z work₁ words₁ cells₁ g₁ st₁ q more-words more-cells C h work₂ class₂ flex W),

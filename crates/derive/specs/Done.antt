@@ -12,11 +12,11 @@ use Rattle.definition.specs.Answer.{Lent}
 use Rattle.definition.specs.Run.{Run, outcome}
 use Rattle.definition.specs.declared.Refusal.{Refusal}
 use Rattle.theory.specs.Patterns.Interned.{Grows}
-use Rattle.store.specs.declared.memo.Memo.{Memo}
+use Rattle.memo.specs.declared.memo.Memo.{Memo}
 use Rattle.store.specs.declared.nodes.Store.{Store}
 use Rattle.catalog.specs.declared.whole.Catalog.{Catalog}
-use Rattle.keys.specs.declared.classes.Keying.{Keying}
-use Rattle.keys.specs.declared.classes.Counts.{Counts as KeyCounts}
+use Rattle.key.specs.declared.classes.Keying.{Keying}
+use Rattle.key.specs.declared.classes.Counts.{Counts as KeyCounts}
 use Rattle.premise.specs.declared.layout.Layout.{Layout}
 use Rattle.rows.specs.Standing.{Standing}
 use Rattle.derive.specs.declared.make.Counted.{Counted}

@@ -1,6 +1,4 @@
 -- The classes of rules, made: what is asked, and what is answered.
-pub mod Flex
-pub mod Marks
 pub mod Done
 pub mod Adding
 pub mod Making

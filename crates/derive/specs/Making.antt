@@ -14,12 +14,12 @@ use Rattle.definition.specs.declared.Refusal.{Refusal}
 use Rattle.definition.specs.declared.Refusal.the-variants.{Clash as Clashes, Circle as Circles, Instance, Short}
 use Rattle.base.specs.Outside.{Outside, outside-then, outside-wider}
 use Rattle.store.specs.Stored.{nodes, written}
-use Rattle.store.specs.declared.memo.Memo.{Memo}
+use Rattle.memo.specs.declared.memo.Memo.{Memo}
 use Rattle.store.specs.declared.nodes.Store.{Store}
 use Rattle.catalog.specs.declared.whole.Catalog.{Catalog}
 use Rattle.graph.specs.declared.graph.Graph.{Graph as Counts}
-use Rattle.keys.specs.declared.classes.Keying.{Keying}
-use Rattle.keys.specs.declared.classes.Counts.{Counts as KeyCounts}
+use Rattle.key.specs.declared.classes.Keying.{Keying}
+use Rattle.key.specs.declared.classes.Counts.{Counts as KeyCounts}
 use Rattle.premise.specs.declared.layout.Layout.{Layout}
 use Rattle.premises.specs.declared.premises.Ruling.{Ruling}
 use Rattle.premises.specs.Given.{Ruled}

@@ -1,16 +1,16 @@
 // A rule's class made: its premises solved, its conclusion read back, then its row.
-use crate::row::write_row;
 use catalog::whole::Catalog;
 use conclude::conclude::Conclusion;
 use conclude::conclude::Ending;
 use conclude::conclude::conclude;
 use graph::graph::Graph;
-use keys::classes::Keying;
+use key::classes::Keying;
+use marks::row::write_row;
+use memo::memo::Memo;
 use premise::layout::Layout;
 use premises::premises::Ruling;
 use rules::solve::Solved;
 use rules::solve::solve_premises;
-use store::memo::Memo;
 use store::nodes::Store;
 ghost use Rattle.derive.specs.Adding.{Adding, Adds};
 ghost use Rattle.derive.specs.Making.{Making, Makes};

@@ -1,40 +1,22 @@
 -- What class building promises, and the laws of its parts.
-use mathlib.Core.Path.{_≡_, refl, sym, ap, subst, _∙_}
+use mathlib.Core.Path.{_≡_, sym, ap, subst, _∙_}
 use mathlib.Core.List.{List, []}
-use mathlib.Core.Option.{none, some}
+use mathlib.Core.Option.{some}
 use Prim.Native.Nat.{ℕ, _≤_, _<_}
-use native.Mathlib.Omega.{arith}
 use lib.ListN.{length, getD, take, replicate}
 use lib.Seq.{length-take-le}
-use Rattle.definition.specs.Test.{is, see, never}
-use Rattle.definition.specs.Pack.{Pack}
-use Rattle.definition.specs.Frame.{fine, refuse}
-use Rattle.definition.specs.Parse.{parse}
-use Rattle.definition.specs.Answer.{Lent, answer, lengths, padded, padded-none, mostCells}
-use Rattle.definition.specs.Run.{outcome}
-use Rattle.definition.specs.Store.{patternWords}
-use Rattle.definition.specs.Classes.{classWords}
-use Rattle.definition.specs.Figures.{figures}
-use Rattle.definition.specs.Calls.{Classed, classRun, called, classesLent, noFigures, Left, refused, answered, certClasses}
+use Rattle.definition.specs.Answer.{answer, padded, padded-none}
+use Rattle.definition.specs.Calls.{noFigures, Left, refused, answered, certClasses}
 use Rattle.definition.specs.declared.Answer.{Answer}
 use Rattle.definition.specs.declared.Figures.{Figures}
 use Rattle.definition.specs.declared.Refusal.{Refusal}
-use Rattle.definition.specs.Laws.Put.{Bytes}
 use Rattle.theory.specs.Principal.{DemandThree}
 use Rattle.theory.specs.DemandThree.{demand-three}
-use Rattle.base.specs.Zero.{zeroed, zeroed-all}
-use Rattle.catalog.specs.declared.whole.Catalog.{Catalog}
-use Rattle.reader.specs.Parsed.{tablesOf, Represents}
+use Rattle.buffer.specs.Zero.{zeroed, zeroed-all}
 use Rattle.horn.specs.Sound.{bytes-all}
-use Rattle.call.specs.Lengths.{lengths-fit}
-use Rattle.call.specs.Opening.{openingRefusal}
-use Rattle.derive.specs.Done.{Lends}
-use Rattle.ready.specs.Ready.{Opened, opened}
-use Rattle.build.specs.Build.{Answered, Builds}
-use Rattle.build.specs.declared.build.Answer.{Answer as Built}
 use Rattle.build.specs.declared.build.Answer.the-variants as built
-use Rattle.dock.specs.Check.{proper, said}
-use Rattle.dock.specs.declared.sorting.ClassesAnswer.{ClassesAnswer}
+use Rattle.sorting.specs.Comes.{Comes}
+use Rattle.dock.specs.declared.building.ClassesAnswer.{ClassesAnswer}
 
 -- what a call returns and leaves, as the definition has it: no text
 abbrev pub leftOf : ClassesAnswer → List ℕ → List ℕ → List ℕ → List ℕ → Left
@@ -48,50 +30,6 @@ leftOf r class pattern graph work = record {
   work = work;
   text = [];
 }
-
--- what the call comes to ahead of clearing
-abbrev pub Comes : List ℕ → List ℕ → List ℕ → List ℕ → List ℕ → List ℕ → List ℕ → Built → Type 0
-Comes bytes class pattern graph work class′ pattern′ (built.Done n m f) =
-    (x : Classed) × (called classRun bytes (classesLent (length bytes) (length class) (length pattern) (length graph) (length work)) ≡ fine x)
-    × (take n class′ ≡ classWords (x .pack) (x .built)) × (n ≤ length class′)
-    × (take m pattern′ ≡ patternWords (x .built .store)) × (m ≤ length pattern′)
-    × (f ≡ figures (x .pack) (x .built))
-Comes bytes class pattern graph work class′ pattern′ (built.Refused r) = called classRun bytes (classesLent (length bytes) (length class) (length pattern) (length graph) (length work)) ≡ refuse r
-
-module _ (bytes class pattern graph work : List ℕ) where
-  abbrev lent : Lent
-  lent = classesLent (length bytes) (length class) (length pattern) (length graph) (length work)
-
-  -- what opening refuses is refused
-  pub comes-refused : (class′ pattern′ : List ℕ) (r : Refusal) → openingRefusal (classesLent (length bytes) (length class) (length pattern) (length graph) (length work)) bytes ≡ some r → Comes bytes class pattern graph work class′ pattern′ (built.Refused r)
-  unfolding openingRefusal called
-  comes-refused class′ pattern′ r e = elim (see (lengths lent)) [
-    | is (some q) p ↦ let z : some q ≡ some r = rw (p, openingRefusal) at e in rw (p, called) (ap refuse (let y : q ≡ r = cc in y))
-    | is none p ↦ elim (see (parse bytes)) [
-      | is (refuse q) f ↦ let z : some q ≡ some r = rw (p, f, openingRefusal) at e in rw (p, f, called) (ap refuse (let y : q ≡ r = cc in y))
-      | is (fine P) f ↦ never (let z : none ≡ some r = rw (p, f, openingRefusal) at e in cc)
-    ]
-  ]
-
-  -- what opens is built
-  module _ (work₁ : List ℕ) (l : lengths (classesLent (length bytes) (length class) (length pattern) (length graph) (length work)) ≡ none) (P : Pack) (f : parse bytes ≡ fine P) (R : Represents bytes work₁ P) (long : length work₁ ≡ length work) (c : Catalog) (e : c ≡ tablesOf (length bytes)) where
-    pub comes-opened : Opened bytes work₁ pattern graph c × (length class < 4294967296) × (length graph < 4294967295)
-    comes-opened =
-        let F = lengths-fit lent l in
-        (opened bytes work₁ pattern graph c e P R (proper bytes P f) (F .pattern) (omega (arith, F .least, long)), omega (arith, F .class), omega (arith, F .graph))
-
-    run : called classRun bytes (classesLent (length bytes) (length class) (length pattern) (length graph) (length work)) ≡ outcome (classesLent (length bytes) (length class) (length pattern) (length graph) (length work)) (classRun P)
-    unfolding called
-    run = rw (l, f, called)
-
-    lends : Lends (classesLent (length bytes) (length class) (length pattern) (length graph) (length work)) class pattern graph
-    lends = record { class-long = refl; words-long = refl; cells-long = refl }
-
-    pub comes-built : (class′ pattern′ : List ℕ) (a : Built) → Builds bytes work₁ class pattern graph class′ pattern′ c a → Comes bytes class pattern graph work class′ pattern′ a
-    comes-built class′ pattern′ (built.Done n m g) B =
-        let A = said bytes work₁ c e (Answered class pattern graph class′ pattern′ n m g) B P f R in
-        (record { pack = P; built = A .built; roots = A .roots }, run ∙ A .is lent lends, A .classes, A .classes-fit, A .patterns, A .patterns-fit, A .counted)
-    comes-built class′ pattern′ (built.Refused x) B = run ∙ said bytes work₁ c e (λ Q. (L : Lent) → Lends L class pattern graph → outcome L (classRun Q) ≡ refuse x) B P f R lent lends
 
 -- zeros behind the words that are the answer
 padded-is : (n : ℕ) (xs ys : List ℕ) (k : ℕ) → length xs ≡ k → take n xs ≡ ys → n ≤ length xs → zeroed n xs ≡ padded k ys

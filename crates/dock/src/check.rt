@@ -1,51 +1,12 @@
 // The step check.
-use base::zero::zero_words_from;
-use call::answer::Outcome;
+use buffer::zero::zero_words_from;
 use call::answer::outcome_answer;
-use call::lent::Lent;
-use call::opening::open_pack;
+use checking::outcome::check_outcome;
 use definition::Answer;
-use definition::Refusal;
-use reader::parsed::tables;
-use verdict::verdict::Verdict;
-use verdict::verdict::pack_verdict;
 ghost use mathlib.Core.Path.{_≡_};
 ghost use lib.ListN.{length};
-ghost use Rattle.definition.specs.Check.{CheckLeft, checkRefusal, certCheck};
-ghost use Rattle.call.specs.Outcome.{refusalOf};
-ghost use Rattle.dock.specs.Check.{Opened, Judged, Statement};
-
-// The verdict on a pack that was read.
-fn verdict_outcome(pack: &[u8], work: &[u32]) -> Outcome
-    requires { ⌜ Opened (now pack) (now work) ⌝ }
-    ensures { λ r. ⌜ Judged (now (pack .entry)) (now (work .entry)) r ⌝ }
-{
-    let c = tables(pack);
-    match pack_verdict(pack, work, c) {
-        Verdict::Accepted => Outcome::Done,
-        Verdict::Step(i) => Outcome::Refused(Refusal::Step(i as u64)),
-        Verdict::Goal(g) => Outcome::Refused(Refusal::Goal(g as u64)),
-    }
-}
-
-// The lengths tested, the pack read, its steps and goals judged.
-fn check_outcome(pack: &[u8], work: &mut [u32]) -> Outcome
-    ensures { λ r. ⌜ refusalOf r ≡ checkRefusal (now (pack .entry)) (length (now (work .entry))) ⌝ }
-{
-    let lent = Lent {
-        pack: pack.len(),
-        class: 0,
-        pattern: 0,
-        graph: 0,
-        work: work.len(),
-        text: 0,
-        goals: 0,
-    };
-    match open_pack(lent, pack, work) {
-        Outcome::Done => verdict_outcome(pack, work),
-        Outcome::Refused(r) => Outcome::Refused(r),
-    }
-}
+ghost use Rattle.definition.specs.Check.{CheckLeft, certCheck};
+ghost use Rattle.dock.specs.Check.{Statement};
 
 // Whether each step follows by its rule and each goal has its result: 0, or the refusal's number and place; work is zeros afterwards.
 #[no_mangle]

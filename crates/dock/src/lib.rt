@@ -1,3 +1,3 @@
 // The calls of a dock.
+pub mod building;
 pub mod check;
-pub mod sorting;

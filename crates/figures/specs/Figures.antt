@@ -11,8 +11,8 @@ use Rattle.definition.specs.declared.Figures.{Figures}
 use Rattle.store.specs.Stored.{Stored, nodes, Counts as Holds}
 use Rattle.store.specs.declared.nodes.Store.{Store}
 use Rattle.keys.specs.Keyed.{KeyedIn}
-use Rattle.keys.specs.declared.classes.Keying.{Keying}
-use Rattle.keys.specs.declared.classes.Counts.{Counts}
+use Rattle.key.specs.declared.classes.Keying.{Keying}
+use Rattle.key.specs.declared.classes.Counts.{Counts}
 use Rattle.figures.specs.Slots.{CountsOf, Sorts}
 use Rattle.figures.specs.declared.histogram.Slots.{Slots}
 use Rattle.figures.specs.declared.figures.Totals.{Totals}

@@ -12,8 +12,8 @@ use Rattle.definition.specs.Keys.{Keyed, noKeyed}
 use Rattle.definition.specs.Classes.{mark}
 use Rattle.definition.specs.Figures.{slot, inSlot}
 use Rattle.kept.specs.Numbers.{count-snoc}
-use Rattle.keys.specs.Words.{countIn}
-use Rattle.keys.specs.declared.classes.Keying.{Keying}
+use Rattle.key.specs.Words.{countIn}
+use Rattle.key.specs.declared.classes.Keying.{Keying}
 use Rattle.figures.specs.declared.histogram.Slots.{Slots}
 
 -- ---- one class more

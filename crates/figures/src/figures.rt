@@ -1,8 +1,8 @@
 // The figures, from what was built.
 use crate::histogram::histogram;
 use definition::Figures;
-use keys::classes::Counts;
-use keys::classes::Keying;
+use key::classes::Counts;
+use key::classes::Keying;
 use store::nodes::Store;
 ghost use Prim.Native.Nat.{_+_, _*_, _≤_};
 ghost use lib.ListN.{length};

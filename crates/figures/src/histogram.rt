@@ -1,6 +1,6 @@
 // The classes by how many steps they have.
-use keys::classes::Keying;
-use keys::classes::class_count;
+use key::classes::Keying;
+use key::classes::class_count;
 ghost use Prim.Native.Nat.{_+_, _*_, _≤_};
 ghost use lib.ListN.{length};
 ghost use Rattle.figures.specs.Slots.{Wide, Adds, Sorts};

@@ -22,12 +22,12 @@ use Rattle.graph.specs.Cells.{rowsEnd}
 use Rattle.graph.specs.Stack.{pairsIn, pairs-more}
 use Rattle.graph.specs.Pushes.{cells-shown}
 use Rattle.graph.specs.Inner.{many-nodes}
-use Rattle.fix.specs.declared.words.Valued.{Valued}
+use Rattle.valuation.specs.declared.words.Valued.{Valued}
 use Rattle.fix.specs.declared.walk.Turn.the-variants.{On, Unlike}
 use Rattle.fix.specs.declared.walk.Fixed.{Fixed}
 use Rattle.fix.specs.declared.walk.Fixed.the-variants.{Done, Differs}
-use Rattle.fix.specs.Words.{tableIn, Stands, Framed, Values, Says, stands-pair, table-room, framed-none, framed-then, framed-same, values-on}
-use Rattle.fix.specs.Stores.{PutsPair}
+use Rattle.valuation.specs.Words.{tableIn, Stands, Framed, Values, Says, stands-pair, table-room, framed-none, framed-then, framed-same, values-on}
+use Rattle.valuation.specs.Stores.{PutsPair}
 use Rattle.fix.specs.Takes.{Left, Ready, Takes}
 use Rattle.fix.specs.Turns.{leftIn, left-on, left-stop, left-done}
 

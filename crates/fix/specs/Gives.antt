@@ -11,7 +11,7 @@ use Rattle.definition.specs.Store.{variableHead}
 use Rattle.definition.specs.Graph.{Graph, Pair, vertex}
 use Rattle.definition.specs.Analysis.{pairing}
 use Rattle.base.specs.Listed.{length-listed}
-use Rattle.catalog.specs.Region.{countIn, placeIn, places}
+use Rattle.region.specs.Region.{countIn, placeIn, places}
 use Rattle.catalog.specs.Whole.{recordsOf, regionOf}
 use Rattle.catalog.specs.declared.whole.Catalog.{Catalog}
 use Rattle.pack.specs.Reads.{Reads}
@@ -24,12 +24,12 @@ use Rattle.graph.specs.Cells.{rowsEnd, Shows, rows-set, shows-rows}
 use Rattle.graph.specs.Joins.{HeadOf, head-variable, head-other}
 use Rattle.graph.specs.Nodes.{ArityOf}
 use Rattle.graph.specs.Stack.{pairsIn, pairs-kept}
-use Rattle.fix.specs.declared.words.Valued.{Valued}
-use Rattle.fix.specs.declared.words.Known.the-variants.{Nothing}
+use Rattle.valuation.specs.declared.words.Valued.{Valued}
+use Rattle.valuation.specs.declared.words.Known.the-variants.{Nothing}
 use Rattle.fix.specs.declared.walk.Turn.{Turn}
 use Rattle.fix.specs.declared.walk.Turn.the-variants.{On, Unlike}
-use Rattle.fix.specs.Words.{valuesAt, tableIn, Stands, Framed, Values, Says, few-nodes, stands-value, table-room, framed-none, framed-then, framed-same, values-on}
-use Rattle.fix.specs.Stores.{ValueIs, PutsValue}
+use Rattle.valuation.specs.Words.{valuesAt, tableIn, Stands, Framed, Values, Says, few-nodes, stands-value, table-room, framed-none, framed-then, framed-same, values-on}
+use Rattle.valuation.specs.Stores.{ValueIs, PutsValue}
 use Rattle.fix.specs.Pushes.{Pushable, Pushes, ground-on}
 use Rattle.fix.specs.Taking.{take-variable, take-unlike, take-ahead}
 

@@ -1,6 +1,4 @@
 -- The ground values of a graph's nodes: their words, and the walk that gives them.
-pub mod Words
-pub mod Stores
 pub mod Pushes
 pub mod Taking
 pub mod Gives

@@ -8,7 +8,7 @@ use lib.ListN.{length, getD, set, take}
 use Rattle.definition.specs.Pack.{Pack, nodeOf}
 use Rattle.definition.specs.Graph.{Pair, vertex}
 use Rattle.catalog.specs.Whole.{recordsOf, Cataloged}
-use Rattle.catalog.specs.Place.{Place}
+use Rattle.region.specs.Place.{Place}
 use Rattle.catalog.specs.Same.{endOf, same-records}
 use Rattle.catalog.specs.declared.whole.Catalog.{Catalog}
 use Rattle.pack.specs.Reads.{Reads}
@@ -19,9 +19,9 @@ use Rattle.graph.specs.declared.graph.Graph.{Graph as Counts}
 use Rattle.graph.specs.Cells.{startIn, rowsEnd}
 use Rattle.graph.specs.Nodes.{ArityOf, ArgumentOf, argument-there}
 use Rattle.graph.specs.Stack.{pairsIn, pairs-more}
-use Rattle.fix.specs.declared.words.Valued.{Valued}
-use Rattle.fix.specs.Words.{tableIn, Stands, Framed, Values, Says, stands-pair, table-room, framed-none, framed-then, framed-same, values-on}
-use Rattle.fix.specs.Stores.{PutsPair}
+use Rattle.valuation.specs.declared.words.Valued.{Valued}
+use Rattle.valuation.specs.Words.{tableIn, Stands, Framed, Values, Says, stands-pair, table-room, framed-none, framed-then, framed-same, values-on}
+use Rattle.valuation.specs.Stores.{PutsPair}
 
 -- as many nodes are recorded where nothing ahead of the table has changed
 pub ground-on : (bytes work work′ words : List ℕ) (c : Catalog) (l : Valued) (n : ℕ) → Cataloged bytes work c → endOf c ≤ l .at → Framed words l work work′ → n < length (recordsOf work c 3) → n < length (recordsOf work′ c 3)

@@ -22,12 +22,12 @@ use Rattle.graph.specs.declared.graph.Graph.{Graph as Counts}
 use Rattle.graph.specs.Cells.{rowsEnd}
 use Rattle.graph.specs.Stack.{leftWord, rightWord, pairsIn, length-pairsIn, pairs-same}
 use Rattle.graph.specs.Inner.{many-nodes}
-use Rattle.fix.specs.declared.words.Valued.{Valued}
-use Rattle.fix.specs.declared.words.Known.the-variants.{Nothing}
+use Rattle.valuation.specs.declared.words.Valued.{Valued}
+use Rattle.valuation.specs.declared.words.Known.the-variants.{Nothing}
 use Rattle.fix.specs.declared.walk.Turn.{Turn}
 use Rattle.fix.specs.declared.walk.Turn.the-variants.{On, Unlike}
-use Rattle.fix.specs.Words.{tableIn, Stands, Placed, Values, few-nodes, stands-found, table-at, framed-then, framed-same}
-use Rattle.fix.specs.Stores.{ValueIs, FindsRoot}
+use Rattle.valuation.specs.Words.{tableIn, Stands, Placed, Values, few-nodes, stands-found, table-at, framed-then, framed-same}
+use Rattle.valuation.specs.Stores.{ValueIs, FindsRoot}
 use Rattle.fix.specs.Pushes.{ground-on}
 use Rattle.fix.specs.Taking.{take-known, take-other}
 use Rattle.fix.specs.Gives.{Gives, Fresh, GivesTo}

@@ -20,7 +20,7 @@ use Rattle.graph.specs.declared.graph.Graph.{Graph as Counts}
 use Rattle.graph.specs.Cells.{markIn, graphIn, rowsEnd}
 use Rattle.graph.specs.Stack.{leftWord, rightWord, pairsIn, length-pairsIn}
 use Rattle.graph.specs.Inner.{many-nodes}
-use Rattle.fix.specs.Words.{valuesAt, wordOf, Stands}
+use Rattle.valuation.specs.Words.{valuesAt, wordOf, Stands}
 use Rattle.fix.specs.Taking.{take-rights}
 use Rattle.fix.specs.Takes.{Left}
 

@@ -1,3 +1,2 @@
 // The ground values of a graph term's roots, beside a ground node of the pack.
 pub mod walk;
-pub mod words;

@@ -1,10 +1,4 @@
 // The ground values by a worklist: each root gets its value once. The pairs still to be taken stand where unification has its own.
-use crate::words::Known;
-use crate::words::Valued;
-use crate::words::put_pair;
-use crate::words::put_value;
-use crate::words::root;
-use crate::words::value;
 use base::id::Ground;
 use base::id::Node;
 use base::id::Pattern;
@@ -13,10 +7,16 @@ use graph::graph::Graph;
 use pack::node::node_argument;
 use pack::node::node_arity;
 use pack::node::node_head;
+use valuation::words::Known;
+use valuation::words::Valued;
+use valuation::words::put_pair;
+use valuation::words::put_value;
+use valuation::words::root;
+use valuation::words::value;
 ghost use Prim.Native.Nat.{_<_};
 ghost use lib.ListN.{length};
 ghost use Rattle.catalog.specs.Whole.{recordsOf};
-ghost use Rattle.fix.specs.Words.{Values};
+ghost use Rattle.valuation.specs.Words.{Values};
 ghost use Rattle.fix.specs.Pushes.{Pushable, Pushes};
 ghost use Rattle.fix.specs.Gives.{Fresh, GivesTo};
 ghost use Rattle.fix.specs.Takes.{Ready, Takes};

@@ -17,11 +17,11 @@ use Rattle.frame.specs.Name.{denied, not-denied}
 use Rattle.graph.specs.declared.graph.Graph.{Graph as Counts}
 use Rattle.graph.specs.Cells.{Shows, nodes-few}
 use Rattle.graph.specs.Joins.{HeadOf, head-variable, head-other}
-use Rattle.root.specs.Words.{valuesAt, tableEnd, tableIn, wordOf, Stands}
-use Rattle.root.specs.Moved.{table-at}
+use Rattle.table.specs.Words.{valuesAt, tableEnd, tableIn, wordOf, Stands}
+use Rattle.table.specs.Moved.{table-at}
 use Rattle.graph.specs.Nodes.{FlexOf, RootOf}
-use Rattle.root.specs.Asked.{graph-long}
-use Rattle.root.specs.declared.words.Table.{Table}
+use Rattle.table.specs.Asked.{graph-long}
+use Rattle.table.specs.declared.words.Table.{Table}
 use Rattle.kept.specs.Numbers.{number-any, count-next}
 use Rattle.fixed.specs.Marks.{coloursAt, colourIn}
 

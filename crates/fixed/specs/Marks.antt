@@ -12,9 +12,9 @@ use lib.Seq.{getD-set-same, getD-set-other}
 use Rattle.definition.specs.Test.{is, see, any}
 use Rattle.definition.specs.Classes.{mark}
 use Rattle.base.specs.Part.{part, part-more}
-use Rattle.root.specs.Words.{valuesAt, numbersAt, tableEnd, tableIn}
-use Rattle.root.specs.Moved.{table-at}
-use Rattle.root.specs.declared.words.Table.{Table}
+use Rattle.table.specs.Words.{valuesAt, numbersAt, tableEnd, tableIn}
+use Rattle.table.specs.Moved.{table-at}
+use Rattle.table.specs.declared.words.Table.{Table}
 
 -- where the colours start
 abbrev pub coloursAt : List ℕ → ℕ

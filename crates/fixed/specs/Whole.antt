@@ -12,12 +12,12 @@ use Rattle.definition.specs.Verdict.{Bound}
 use Rattle.definition.specs.Graph.{Graph, upTo}
 use Rattle.definition.specs.Classes.{countOf, isFixed, mark}
 use Rattle.base.specs.Part.{put, part-at, part-same, length-part}
-use Rattle.base.specs.Zero.{zeros-long, zeros-there, zeros-before, zeros-behind}
+use Rattle.buffer.specs.Zero.{zeros-long, zeros-there, zeros-before, zeros-behind}
 use Rattle.graph.specs.declared.graph.Graph.{Graph as Counts}
 use Rattle.graph.specs.Cells.{SameRows, shows-rows, nodes-few}
-use Rattle.root.specs.Words.{valuesAt, numbersAt, tableEnd, tableIn, Stands, Moves}
-use Rattle.root.specs.Moved.{table-at, table-long}
-use Rattle.root.specs.declared.words.Table.{Table}
+use Rattle.table.specs.Words.{valuesAt, numbersAt, tableEnd, tableIn, Stands, Moves}
+use Rattle.table.specs.Moved.{table-at, table-long}
+use Rattle.table.specs.declared.words.Table.{Table}
 use Rattle.fixed.specs.Marks.{coloursAt, numbersIn, MarkAsked, Marks}
 use Rattle.fixed.specs.Fixed.{Coloured, ColouredIn, FixesAll}
 

@@ -1,11 +1,11 @@
 // How many variables are fixed: roots that are neither flexible nor numbered and have a ground value. The numbered ones get a colour.
 use base::id::Node;
 use base::id::Pattern;
-use base::zero::zero_words;
+use buffer::zero::zero_words;
 use graph::graph::Graph;
-use root::words::Table;
-use root::words::put_word;
-use root::words::word_at;
+use table::words::Table;
+use table::words::put_word;
+use table::words::word_at;
 ghost use Rattle.fixed.specs.Marks.{MarkAsked, Marks};
 ghost use Rattle.fixed.specs.Fixed.{FixedAsked, FixesOne, ColouredIn, FixesAll};
 ghost use Rattle.fixed.specs.Whole.{NumbersIn, CountsFixed};

@@ -2,8 +2,8 @@
 ghost use Prim.Native.Nat.{_≤_};
 ghost use lib.ListN.{length};
 ghost use Rattle.frame.specs.Header.{Heads};
-use base::little::u16_at;
-use base::little::u32_at;
+use buffer::little::u16_at;
+use buffer::little::u32_at;
 
 // A record's kind and where its body ends, or that the record is cut, of no kind, or out of order.
 pub enum Header {

@@ -6,7 +6,7 @@ ghost use lib.ListN.{length, drop};
 ghost use Rattle.definition.specs.Test.{all};
 ghost use Rattle.definition.specs.Little.{le};
 ghost use Rattle.definition.specs.Theory.{words};
-use base::little::u32_at;
+use buffer::little::u32_at;
 
 // Word `i` of the row that starts at `at`.
 pub fn word(body: &[u8], at: usize, i: usize) -> u32

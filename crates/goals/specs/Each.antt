@@ -15,9 +15,9 @@ use Rattle.base.specs.Outside.{Outside, outside-none, outside-then}
 use Rattle.catalog.specs.Whole.{recordsOf}
 use Rattle.catalog.specs.declared.whole.Catalog.{Catalog}
 use Rattle.pack.specs.Reads.{length-goals}
-use Rattle.store.specs.declared.memo.Memo.{Memo}
+use Rattle.memo.specs.declared.memo.Memo.{Memo}
 use Rattle.store.specs.declared.nodes.Store.{Store}
-use Rattle.keys.specs.declared.classes.Keying.{Keying}
+use Rattle.key.specs.declared.classes.Keying.{Keying}
 use Rattle.premise.specs.declared.layout.Layout.{Layout}
 use Rattle.instance.specs.Held.{Kept, given-on}
 use Rattle.instance.specs.declared.tables.Instance.{Instance}

@@ -23,15 +23,15 @@ use Rattle.theory.specs.Classes.GoalsMet.{result-named}
 use Rattle.base.specs.Outside.{Outside, outside-none}
 use Rattle.catalog.specs.Whole.{recordsOf}
 use Rattle.catalog.specs.declared.whole.Catalog.{Catalog}
-use Rattle.catalog.specs.declared.region.Sought.the-variants.{At, Nowhere}
+use Rattle.region.specs.declared.region.Sought.the-variants.{At, Nowhere}
 use Rattle.pack.specs.Reads.{length-nodes, length-steps, length-goals}
 use Rattle.pack.specs.Says.{OfPack}
 use Rattle.pack.specs.Held.{OfHeld}
-use Rattle.pack.specs.Goals.{goalOf, MetBy, StepOf}
+use Rattle.named.specs.Goals.{goalOf, MetBy, StepOf}
 use Rattle.store.specs.Stored.{nodes}
-use Rattle.store.specs.declared.memo.Memo.{Memo}
+use Rattle.memo.specs.declared.memo.Memo.{Memo}
 use Rattle.store.specs.declared.nodes.Store.{Store}
-use Rattle.keys.specs.declared.classes.Keying.{Keying}
+use Rattle.key.specs.declared.classes.Keying.{Keying}
 use Rattle.premise.specs.declared.layout.Layout.{Layout}
 use Rattle.instance.specs.Held.{valueAt, Given, Kept}
 use Rattle.instance.specs.Matches.{Matches}

@@ -13,13 +13,13 @@ use Rattle.base.specs.Upto.{Upto}
 use Rattle.catalog.specs.Whole.{recordsOf}
 use Rattle.catalog.specs.declared.whole.Catalog.{Catalog}
 use Rattle.pack.specs.Reads.{Reads}
-use Rattle.pack.specs.Goals.{MetBy}
+use Rattle.named.specs.Goals.{MetBy}
 use Rattle.pack.specs.Held.{Proper}
 use Rattle.store.specs.Stored.{nodes}
-use Rattle.store.specs.declared.memo.Memo.{Memo}
+use Rattle.memo.specs.declared.memo.Memo.{Memo}
 use Rattle.store.specs.declared.nodes.Store.{Store}
 use Rattle.needed.specs.Firsts.{Noted, placed-many, placed-reads, noted-on}
-use Rattle.keys.specs.declared.classes.Keying.{Keying}
+use Rattle.key.specs.declared.classes.Keying.{Keying}
 use Rattle.premise.specs.Takes.{conclusionIn}
 use Rattle.premise.specs.declared.layout.Layout.{Layout}
 use Rattle.instance.specs.Held.{Given}

@@ -15,7 +15,7 @@ use Rattle.definition.specs.Goals.{resultOf}
 use Rattle.theory.specs.Keys.Needed.{Among, first-earlier}
 use Rattle.theory.specs.Keys.KeyedLaws.{keyed-kept}
 use Rattle.theory.specs.Classes.GoalsMet.{result-needed}
-use Rattle.pack.specs.Goals.{MetBy}
+use Rattle.named.specs.Goals.{MetBy}
 
 -- ---- a result by its name
 -- the one that is found is one of them, and has the name

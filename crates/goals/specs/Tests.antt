@@ -19,11 +19,11 @@ use Rattle.catalog.specs.declared.whole.Catalog.{Catalog}
 use Rattle.pack.specs.Reads.{length-steps}
 use Rattle.pack.specs.Held.{held-on}
 use Rattle.store.specs.Stored.{Stored, nodes}
-use Rattle.store.specs.declared.memo.Memo.{Memo}
+use Rattle.memo.specs.declared.memo.Memo.{Memo}
 use Rattle.store.specs.declared.nodes.Store.{Store}
 use Rattle.keys.specs.Keyed.{keyed-noted}
-use Rattle.keys.specs.declared.classes.Keying.{Keying}
-use Rattle.keys.specs.declared.classes.Counts.{Counts}
+use Rattle.key.specs.declared.classes.Keying.{Keying}
+use Rattle.key.specs.declared.classes.Counts.{Counts}
 use Rattle.premise.specs.declared.layout.Layout.{Layout}
 use Rattle.rows.specs.Rows.{row-within, row-conclusion}
 use Rattle.rows.specs.Standing.{Standing, standing-held, standing-keyed, standing-behind, standing-few}

@@ -1,17 +1,17 @@
 // One goal: its result, that one's class, and the instance test.
 use base::id::Ground;
 use base::id::Pattern;
-use catalog::region::Sought;
 use catalog::whole::Catalog;
 use instance::tables::Instance;
 use instance::walk::Matched;
 use instance::walk::instance;
-use keys::classes::Keying;
+use key::classes::Keying;
+use memo::memo::Memo;
+use named::goal::goal_judgment;
+use named::goal::goal_step;
 use needed::firsts::first_of;
-use pack::goal::goal_judgment;
-use pack::goal::goal_step;
 use premise::layout::Layout;
-use store::memo::Memo;
+use region::region::Sought;
 use store::nodes::Store;
 ghost use mathlib.Core.Path.{_≡_};
 ghost use Prim.Native.Nat.{_+_, _<_};

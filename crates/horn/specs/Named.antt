@@ -7,7 +7,7 @@ use native.Mathlib.Omega.{arith}
 use lib.ListN.{length, getD, take, drop, length-map, length-drop}
 use lib.Seq.{take-length}
 use Rattle.definition.specs.Theory.{isName}
-use Rattle.catalog.specs.Place.{Place, noPlace, keyAt}
+use Rattle.region.specs.Place.{Place, noPlace, keyAt}
 use Rattle.pack.specs.Reads.{Listed, listed-length}
 use Rattle.frame.specs.Name.{denied, not-denied}
 use Rattle.horn.specs.Taking.{Names}

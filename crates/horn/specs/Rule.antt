@@ -14,9 +14,9 @@ use Rattle.definition.specs.Theory.{isName, words, isSort, takeRule}
 use Rattle.definition.specs.Laws.Decide.{sorts-all}
 use Rattle.definition.specs.Laws.Prefix.{RuleRead, rule-good}
 use Rattle.definition.specs.Laws.DecideRule.{varsIn, termsIn, ruleIn, rule-count, rule-many, rule-short, rule-variables, rule-premises, rule-length, rule-sorts, rule-terms-bad, rule-terms-over, rule-misnamed, rule-again, rule-taken}
-use Rattle.catalog.specs.Place.{Place, keyAt, bodyAt}
+use Rattle.region.specs.Place.{Place, keyAt, bodyAt}
 use Rattle.catalog.specs.Whole.{recordsOf, EnteringIn, EntersIn, FindsIn}
-use Rattle.catalog.specs.declared.region.Entered.the-variants.{New, Old}
+use Rattle.region.specs.declared.region.Entered.the-variants.{New, Old}
 use Rattle.catalog.specs.declared.whole.Catalog.{Catalog}
 use Rattle.pack.specs.Reads.{Reads, RuleIn, RulesIn, length-sorts, read-rule}
 use Rattle.frame.specs.Name.{denied, not-denied}

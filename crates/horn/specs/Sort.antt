@@ -11,9 +11,9 @@ use Rattle.definition.specs.Pack.{Pack, withSort}
 use Rattle.definition.specs.Frame.{good}
 use Rattle.definition.specs.Theory.{isName, takeSort}
 use Rattle.definition.specs.Laws.DecideTheory.{sort-over, sort-misnamed, sort-again, sort-taken}
-use Rattle.catalog.specs.Place.{Place, keyAt}
+use Rattle.region.specs.Place.{Place, keyAt}
 use Rattle.catalog.specs.Whole.{recordsOf, EnteringIn, EntersIn}
-use Rattle.catalog.specs.declared.region.Entered.the-variants.{New, Old}
+use Rattle.region.specs.declared.region.Entered.the-variants.{New, Old}
 use Rattle.catalog.specs.declared.whole.Catalog.{Catalog}
 use Rattle.pack.specs.Reads.{Reads, listed-at, listed-length, read-sort}
 use Rattle.horn.specs.Taking.{Reading, Whole, behind, Takes, key-at, may-enter, entered-takes, refused-takes, Names, names-there, names-not-there}

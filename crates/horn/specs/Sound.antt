@@ -6,7 +6,7 @@ use Rattle.definition.specs.Little.{le}
 use Rattle.definition.specs.Pack.{Pack, nodeOf}
 use Rattle.definition.specs.Laws.Put.{Bytes, bytes-take, bytes-drop}
 use Rattle.base.specs.Part.{part}
-use Rattle.catalog.specs.Place.{Place, bodyAt}
+use Rattle.region.specs.Place.{Place, bodyAt}
 use Rattle.catalog.specs.Whole.{recordsOf, Cataloged}
 use Rattle.catalog.specs.declared.whole.Catalog.{Catalog}
 use Rattle.pack.specs.Reads.{Reads}

@@ -14,9 +14,9 @@ use Rattle.definition.specs.Frame.{good, bad, over}
 use Rattle.definition.specs.Theory.{isName, words, isSort, isOutput, takeSymbol}
 use Rattle.definition.specs.Laws.Decide.{sorts-all, output-prop}
 use Rattle.definition.specs.Laws.DecideTheory.{symbol-over, symbol-short, symbol-wide, symbol-length, symbol-output, symbol-input, symbol-misnamed, symbol-again, symbol-taken}
-use Rattle.catalog.specs.Place.{Place, keyAt, bodyAt}
+use Rattle.region.specs.Place.{Place, keyAt, bodyAt}
 use Rattle.catalog.specs.Whole.{recordsOf, EnteringIn, EntersIn}
-use Rattle.catalog.specs.declared.region.Entered.the-variants.{New, Old}
+use Rattle.region.specs.declared.region.Entered.the-variants.{New, Old}
 use Rattle.catalog.specs.declared.whole.Catalog.{Catalog}
 use Rattle.pack.specs.Body.{symbolIn}
 use Rattle.pack.specs.Reads.{Reads, SymbolForm, length-sorts, length-symbols, read-symbol}

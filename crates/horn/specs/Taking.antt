@@ -13,9 +13,9 @@ use Rattle.definition.specs.Test.{_and_, any, same}
 use Rattle.definition.specs.Pack.{Pack}
 use Rattle.definition.specs.Laws.Decide.{names-any, names-none}
 use Rattle.definition.specs.Frame.{Checked, good, bad, over}
-use Rattle.catalog.specs.Place.{Place, noPlace, endOf, keyAt, bodyAt}
+use Rattle.region.specs.Place.{Place, noPlace, endOf, keyAt, bodyAt}
 use Rattle.catalog.specs.Whole.{recordsOf, keyedKind, cap-room, Cataloged, Outside, More, EnteringIn, EntersIn, FindsIn}
-use Rattle.catalog.specs.declared.region.Entered.the-variants.{New, Old}
+use Rattle.region.specs.declared.region.Entered.the-variants.{New, Old}
 use Rattle.catalog.specs.declared.whole.Catalog.{Catalog}
 use Rattle.pack.specs.Reads.{Reads, OneMore}
 use Rattle.horn.specs.declared.taken.Taken.{Taken}

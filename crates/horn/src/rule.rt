@@ -1,10 +1,10 @@
 // Rules.
 use crate::taken::Taken;
-use base::little::u16_at;
-use catalog::region::Entered;
+use buffer::little::u16_at;
 use catalog::whole::Catalog;
 use frame::name::is_name;
 use frame::row::all_below;
+use region::region::Entered;
 use terms::terms::Terms;
 use terms::terms::read_terms;
 ghost use Rattle.definition.specs.Theory.{takeRule};

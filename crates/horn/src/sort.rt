@@ -1,8 +1,8 @@
 // Sorts.
 use crate::taken::Taken;
-use catalog::region::Entered;
 use catalog::whole::Catalog;
 use frame::name::is_name;
+use region::region::Entered;
 ghost use Rattle.definition.specs.Theory.{takeSort};
 ghost use Rattle.horn.specs.Taking.{Reading, Whole, behind, Takes};
 

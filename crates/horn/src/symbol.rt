@@ -1,12 +1,12 @@
 // Symbols.
 use crate::taken::Taken;
 use base::id::Ground;
-use base::little::u16_at;
-use base::little::u32_at;
-use catalog::region::Entered;
+use buffer::little::u16_at;
+use buffer::little::u32_at;
 use catalog::whole::Catalog;
 use frame::name::is_name;
 use frame::row::all_below;
+use region::region::Entered;
 ghost use Rattle.definition.specs.Theory.{takeSymbol};
 ghost use Rattle.horn.specs.Taking.{Reading, Whole, behind, Takes};
 ghost use Rattle.horn.specs.Symbol.{OutputOf, Shapes};

@@ -18,9 +18,9 @@ use Rattle.theory.specs.Walks.Valuing.{total, left-most}
 use Rattle.theory.specs.Walks.Matching.{matching, matchesLeft}
 use Rattle.theory.specs.Walks.Matched.{Leads, leads-first}
 use Rattle.store.specs.Stored.{nodes}
-use Rattle.store.specs.Recall.{Remembers}
+use Rattle.memo.specs.Recall.{Remembers}
 use Rattle.store.specs.declared.nodes.Store.{Store}
-use Rattle.store.specs.declared.memo.Memo.{Memo}
+use Rattle.memo.specs.declared.memo.Memo.{Memo}
 use Rattle.instance.specs.declared.tables.Instance.{Instance}
 use Rattle.instance.specs.declared.walk.Turn.the-variants.{Unlike}
 use Rattle.instance.specs.declared.walk.Matched.the-variants.{Yes, No}

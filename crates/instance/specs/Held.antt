@@ -13,7 +13,7 @@ use Rattle.definition.specs.Store.{isVariable, below, patternWords}
 use Rattle.definition.specs.Verdict.{Bound, valueOf}
 use Rattle.definition.specs.Analysis.{pairing}
 use Rattle.base.specs.Outside.{Outside}
-use Rattle.catalog.specs.Place.{Place}
+use Rattle.region.specs.Place.{Place}
 use Rattle.catalog.specs.Whole.{recordsOf}
 use Rattle.catalog.specs.Same.{endOf, Same, same-records}
 use Rattle.catalog.specs.declared.whole.Catalog.{Catalog}
@@ -24,9 +24,9 @@ use Rattle.theory.specs.Copies.Copying.{valueOf-new, valueOf-old}
 use Rattle.theory.specs.Walks.Valuing.{total}
 use Rattle.theory.specs.Walks.Matching.{numberOf}
 use Rattle.store.specs.Stored.{Stored, nodes}
-use Rattle.store.specs.Recall.{recall, Remembers, length-recall}
+use Rattle.memo.specs.Recall.{recall, Remembers, length-recall}
 use Rattle.store.specs.declared.nodes.Store.{Store}
-use Rattle.store.specs.declared.memo.Memo.{Memo}
+use Rattle.memo.specs.declared.memo.Memo.{Memo}
 use Rattle.instance.specs.declared.tables.Instance.{Instance}
 use Rattle.instance.specs.Tables.{lent, lent-long, lent-before, lent-behind, recallAt, Puts}
 

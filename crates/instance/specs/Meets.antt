@@ -20,9 +20,9 @@ use Rattle.pack.specs.Held.{held-on, reads-back}
 use Rattle.theory.specs.Walks.Ahead.{ahead, ahead-unlike}
 use Rattle.theory.specs.Walks.Matching.{matching, takeMatch}
 use Rattle.store.specs.Stored.{Stored, nodes}
-use Rattle.store.specs.Recall.{recall, Remembers}
+use Rattle.memo.specs.Recall.{recall, Remembers}
 use Rattle.store.specs.declared.nodes.Store.{Store}
-use Rattle.store.specs.declared.memo.Memo.{Memo}
+use Rattle.memo.specs.declared.memo.Memo.{Memo}
 use Rattle.instance.specs.declared.tables.Instance.{Instance}
 use Rattle.instance.specs.declared.walk.Turn.{Turn}
 use Rattle.instance.specs.declared.walk.Turn.the-variants.{On, Unlike}

@@ -10,7 +10,7 @@ use Rattle.definition.specs.Graph.{Pair}
 use Rattle.base.specs.Outside.{Outside, outside-none, outside-then, outside-set}
 use Rattle.catalog.specs.Whole.{recordsOf}
 use Rattle.catalog.specs.Same.{endOf, same-records}
-use Rattle.catalog.specs.Place.{Place}
+use Rattle.region.specs.Place.{Place}
 use Rattle.catalog.specs.declared.whole.Catalog.{Catalog}
 use Rattle.pack.specs.Reads.{Reads}
 use Rattle.pack.specs.Says.{Readable, OfPack}

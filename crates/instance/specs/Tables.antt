@@ -10,8 +10,8 @@ use Rattle.definition.specs.Graph.{Pair}
 use Rattle.base.specs.Outside.{Outside, outside-wider, outside-put, part-ahead, part-behind}
 use Rattle.base.specs.Part.{part, put, length-part, part-put}
 use Rattle.theory.specs.Walks.Ahead.{beside}
-use Rattle.store.specs.Recall.{recall, Remembers}
-use Rattle.store.specs.declared.memo.Memo.{Memo}
+use Rattle.memo.specs.Recall.{recall, Remembers}
+use Rattle.memo.specs.declared.memo.Memo.{Memo}
 
 -- what stands from a up to e, as it is lent
 abbrev pub lent : ℕ → ℕ → List ℕ → List ℕ

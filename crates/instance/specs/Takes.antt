@@ -23,7 +23,7 @@ use Rattle.theory.specs.Walks.Matching.{matching, numberOf, takeMatch, matchesL
 use Rattle.theory.specs.Walks.Matched.{Leads}
 use Rattle.store.specs.Stored.{nodes}
 use Rattle.store.specs.declared.nodes.Store.{Store}
-use Rattle.store.specs.declared.memo.Memo.{Memo}
+use Rattle.memo.specs.declared.memo.Memo.{Memo}
 use Rattle.instance.specs.declared.tables.Instance.{Instance}
 use Rattle.instance.specs.declared.walk.Turn.{Turn}
 use Rattle.instance.specs.declared.walk.Turn.the-variants.{On, Unlike}

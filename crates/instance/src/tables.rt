@@ -1,12 +1,12 @@
 // Memos that stand in a part of work, and the worklist's pairs.
 use base::id::Ground;
 use base::id::Pattern;
-use store::memo::Known;
-use store::memo::Memo;
+use memo::memo::Known;
+use memo::memo::Memo;
 ghost use mathlib.Core.Path.{_≡_};
 ghost use Prim.Native.Nat.{_+_, _*_, _≤_, _<_};
 ghost use lib.ListN.{length, set};
-ghost use Rattle.store.specs.Recall.{recall, Remembers, known};
+ghost use Rattle.memo.specs.Recall.{recall, Remembers, known};
 ghost use Rattle.instance.specs.Tables.{lent, recallAt, Puts, Clears};
 
 // Where the instance test has its tables in work: the store's index, the worklist (two words a pair), what pattern nodes were matched

@@ -2,9 +2,9 @@
 // grows towards its front, so that a symbol's arguments stand there in their order.
 use base::id::Node;
 use catalog::whole::Catalog;
+use clause::rule::rule_word;
 use graph::graph::Graph;
 use graph::graph::Pushed;
-use pack::rule::rule_word;
 use pack::symbol::symbol_arity;
 ghost use Rattle.instantiate.specs.Building.{Taking, Takes, Asked, Instantiates};
 

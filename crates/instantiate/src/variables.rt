@@ -1,9 +1,9 @@
 // A rule's variables as the first nodes of a graph.
 use crate::terms::Place;
 use catalog::whole::Catalog;
+use clause::rule::rule_var;
 use graph::graph::Graph;
 use graph::graph::Pushed;
-use pack::rule::rule_var;
 ghost use Rattle.instantiate.specs.Variables.{Opening, Opens};
 
 // The graph with the variables, or that there is no room for them.

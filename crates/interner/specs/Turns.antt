@@ -15,7 +15,7 @@ use Rattle.definition.specs.Test.{is, see, never}
 use Rattle.definition.specs.Pack.{Node}
 use Rattle.definition.specs.Store.{placeOf, intern, patternWords, nodesIn}
 use Rattle.definition.specs.Answer.{padded, padded-none}
-use Rattle.base.specs.Zero.{zeroed}
+use Rattle.buffer.specs.Zero.{zeroed}
 use Rattle.store.specs.Words.{nodeWith, length-more, begins-take, begins-long}
 use Rattle.store.specs.Stored.{Stored, Enough, nodes}
 use Rattle.store.specs.declared.nodes.Store.{Store}

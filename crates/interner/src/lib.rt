@@ -1,6 +1,6 @@
 // Interns a list of nodes, for the host's test and benchmark of the store.
-use base::zero::zero_words;
-use base::zero::zero_words_from;
+use buffer::zero::zero_words;
+use buffer::zero::zero_words_from;
 use store::nodes::Interned;
 use store::nodes::Store;
 ghost use mathlib.Core.Path.{_≡_};

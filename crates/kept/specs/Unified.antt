@@ -13,7 +13,7 @@ use Rattle.theory.specs.Unification.Solve.{SameNodes}
 use Rattle.theory.specs.Unification.Forest.{Forest, Linked, root-inside, linked-forest}
 use Rattle.theory.specs.Unification.Join.{Joined, same-refl, same-trans, join-joined, bind-joined}
 use Rattle.theory.specs.Unification.Unify.{take-clashed, take-on}
-use Rattle.unify.specs.Meets.{meet-same, meet-left, meet-right, meet-rigid, meet-unlike, meet-alike}
+use Rattle.meet.specs.Meets.{meet-same, meet-left, meet-right, meet-rigid, meet-unlike, meet-alike}
 use Rattle.graph.specs.Inner.{Inner}
 use Rattle.unify.specs.Unifies.{Within, meet-keeps}
 

@@ -21,12 +21,12 @@ use Rattle.catalog.specs.declared.whole.Catalog.{Catalog}
 use Rattle.pack.specs.Reads.{length-nodes, length-steps}
 use Rattle.pack.specs.Held.{Proper, OfHeld}
 use Rattle.needed.specs.Firsts.{Firsts, Noted, placed-back, judgment-given}
-use Rattle.keys.specs.Words.{firstIn, countIn, endOf, Keyable, placed, keyable-on}
+use Rattle.key.specs.Words.{firstIn, countIn, endOf, Keyable, placed, keyable-on}
 use Rattle.keys.specs.Table.{stepsOf}
 use Rattle.keys.specs.Stands.{keysTo, keys-all, Stands}
 use Rattle.keys.specs.Turns.{State, Turns, Begins, steps-on}
-use Rattle.keys.specs.declared.classes.Keying.{Keying}
-use Rattle.keys.specs.declared.classes.Counts.{Counts}
+use Rattle.key.specs.declared.classes.Keying.{Keying}
+use Rattle.key.specs.declared.classes.Counts.{Counts}
 
 -- the words say the keys of pack P
 pub record KeyedIn (P : Pack) (work class : List ℕ) (k : Keying) (r : Counts) : Type 0 where

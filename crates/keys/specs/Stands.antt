@@ -26,11 +26,11 @@ use Rattle.base.specs.Probe.{Table, Passed, absent, grown, table-same}
 use Rattle.pack.specs.Held.{Proper}
 use Rattle.needed.specs.Firsts.{Firsts, firsts-on}
 use Rattle.needed.specs.Marks.{bit}
-use Rattle.keys.specs.Spell.{spell, spell-once, key-set, key-take}
-use Rattle.keys.specs.Words.{firstIn, countIn, endOf, slotsIn, joined, joined-upto, joined-first, joined-same, joined-other, joined-slots, begun, begun-upto, begun-first, begun-others, begun-count, begun-counts, begun-slots}
+use Rattle.key.specs.Spell.{spell, spell-once, key-set, key-take}
+use Rattle.key.specs.Words.{firstIn, countIn, endOf, slotsIn, joined, joined-upto, joined-first, joined-same, joined-other, joined-slots, begun, begun-upto, begun-first, begun-others, begun-count, begun-counts, begun-slots}
 use Rattle.keys.specs.Table.{classKey, hashesFor}
-use Rattle.keys.specs.declared.classes.Keying.{Keying}
-use Rattle.keys.specs.declared.classes.Counts.{Counts}
+use Rattle.key.specs.declared.classes.Keying.{Keying}
+use Rattle.key.specs.declared.classes.Counts.{Counts}
 
 -- the keys of the first n steps
 unfoldable pub keysTo : Pack → ℕ → Keys

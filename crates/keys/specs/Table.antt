@@ -16,10 +16,10 @@ use Rattle.catalog.specs.declared.whole.Catalog.{Catalog}
 use Rattle.pack.specs.Reads.{Reads}
 use Rattle.pack.specs.Held.{Proper, OfHeld}
 use Rattle.needed.specs.Firsts.{Firsts}
-use Rattle.keys.specs.Spell.{spell}
-use Rattle.keys.specs.Words.{firstIn, slotsAt, slotsIn, Keyable, placed, slot-at, length-slots}
-use Rattle.keys.specs.Writing.{Asked, Written}
-use Rattle.keys.specs.declared.classes.Keying.{Keying}
+use Rattle.key.specs.Spell.{spell}
+use Rattle.key.specs.Words.{firstIn, slotsAt, slotsIn, Keyable, placed, slot-at, length-slots}
+use Rattle.key.specs.Writing.{Asked, Written}
+use Rattle.key.specs.declared.classes.Keying.{Keying}
 use Rattle.keys.specs.declared.table.Slot.{Slot}
 use Rattle.keys.specs.declared.table.Slot.the-variants.{Found, Free}
 

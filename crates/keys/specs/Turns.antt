@@ -13,7 +13,7 @@ use Rattle.definition.specs.Classes.{countOf}
 use Rattle.definition.specs.Keys.{needed}
 use Rattle.base.specs.Hash.{hashOf}
 use Rattle.base.specs.Part.{put, part-is}
-use Rattle.base.specs.Zero.{zeros-long, zeros-there, zeros-before, zeros-behind}
+use Rattle.buffer.specs.Zero.{zeros-long, zeros-there, zeros-before, zeros-behind}
 use Rattle.base.specs.Probe.{Table, table-empty}
 use Rattle.base.specs.Outside.{Outside, outside-none, outside-then, outside-set, outside-wider}
 use Rattle.base.specs.Upto.{Upto, upto-outside}
@@ -23,11 +23,11 @@ use Rattle.pack.specs.Reads.{Reads, length-nodes, length-steps}
 use Rattle.pack.specs.Held.{OfHeld}
 use Rattle.needed.specs.Firsts.{Noted, firsts-on, placed-many, placed-back}
 use Rattle.needed.specs.Marks.{Marked, bit-no, bit-yes}
-use Rattle.keys.specs.Words.{countIn, slotsAt, endOf, slotsIn, Keyable, placed, keyable-on, joined, joined-outside, begun, begun-outside}
+use Rattle.key.specs.Words.{countIn, slotsAt, endOf, slotsIn, Keyable, placed, keyable-on, joined, joined-outside, begun, begun-outside}
 use Rattle.keys.specs.Table.{classKey, hashesFor, stepsOf, Tabled, Sought, steps-small}
 use Rattle.keys.specs.Stands.{keysTo, keys-none, Stands, Roomy, first-early, count-small, seen-small, stands-out, stands-old, stands-new}
-use Rattle.keys.specs.declared.classes.Keying.{Keying}
-use Rattle.keys.specs.declared.classes.Counts.{Counts}
+use Rattle.key.specs.declared.classes.Keying.{Keying}
+use Rattle.key.specs.declared.classes.Counts.{Counts}
 use Rattle.keys.specs.declared.table.Slot.the-variants.{Found, Free}
 
 -- the first s steps have their classes

@@ -1,5 +1,3 @@
 // Which steps are needed, and the class of each: steps with one key are of one class.
-pub mod classes;
-pub mod key;
 pub mod steps;
 pub mod table;

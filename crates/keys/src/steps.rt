@@ -1,19 +1,19 @@
 // The class of each step, from the first step on.
-use crate::classes::Counts;
-use crate::classes::Keying;
-use crate::classes::begin_class;
-use crate::classes::join_class;
 use crate::table::Slot;
 use crate::table::search;
-use base::zero::zero_words;
+use buffer::zero::zero_words;
 use catalog::whole::Catalog;
+use key::classes::Counts;
+use key::classes::Keying;
+use key::classes::begin_class;
+use key::classes::join_class;
 use needed::firsts::note_firsts;
 use needed::marks::mark_needed;
 ghost use Prim.Native.Nat.{_<_};
 ghost use lib.ListN.{length};
 ghost use Rattle.base.specs.Outside.{Outside};
 ghost use Rattle.catalog.specs.Whole.{recordsOf};
-ghost use Rattle.keys.specs.Words.{endOf, Keyable};
+ghost use Rattle.key.specs.Words.{endOf, Keyable};
 ghost use Rattle.keys.specs.Turns.{State, Begins, Turns, Clearing, Cleared};
 ghost use Rattle.keys.specs.Keyed.{KeyedWork};
 

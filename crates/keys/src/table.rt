@@ -1,10 +1,10 @@
 // The class of a key, by a probe table: a slot is 0 or the number of a class and one; a class's key is its first step's.
-use crate::classes::Keying;
-use crate::classes::class_first;
-use crate::key::write_key;
 use base::hash::hash_words;
 use base::same::same_words;
 use catalog::whole::Catalog;
+use key::classes::Keying;
+use key::classes::class_first;
+use key::key::write_key;
 ghost use mathlib.Core.Path.{_≡_};
 ghost use Prim.Native.Nat.{_<_};
 ghost use lib.ListN.{length};

@@ -24,7 +24,7 @@ use Rattle.store.specs.declared.nodes.Store.{Store}
 use Rattle.store.specs.declared.nodes.Interned.{Interned}
 use Rattle.store.specs.declared.nodes.Interned.the-variants.{Id, Short}
 use Rattle.base.specs.declared.id.Pattern.{Pattern}
-use Rattle.catalog.specs.Place.{bodyAt}
+use Rattle.region.specs.Place.{bodyAt}
 use Rattle.catalog.specs.Whole.{recordsOf}
 use Rattle.catalog.specs.Same.{Same}
 use Rattle.catalog.specs.declared.whole.Catalog.{Catalog}

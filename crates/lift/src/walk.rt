@@ -1,7 +1,7 @@
 // Ground nodes lifted to patterns, arguments first: a walk by a stack that lifts each node once.
 use base::id::Ground;
 use base::id::Pattern;
-use base::zero::zero_words;
+use buffer::zero::zero_words;
 use catalog::whole::Catalog;
 use pack::node::node_argument;
 use pack::node::node_arity;

@@ -19,7 +19,7 @@ use Rattle.catalog.specs.declared.whole.Catalog.{Catalog}
 use Rattle.pack.specs.Reads.{Reads, length-symbols, length-nodes, length-steps}
 use Rattle.pack.specs.Held.{Proper, Held, OfHeld, held-on, reads-on, reads-back}
 use Rattle.pack.specs.Says.{OfPack}
-use Rattle.certificate.specs.Marks.{marksAt, markOf, Marks, marked-cut, unmarked-cut}
+use Rattle.cuts.specs.Marks.{marksAt, markOf, Marks, marked-cut, unmarked-cut}
 use Rattle.needed.specs.Upto.{upto-same, upto-marks}
 
 -- the words from `at` on say it

@@ -17,7 +17,7 @@ use Rattle.definition.specs.Laws.Grow.{below-at}
 use Rattle.theory.specs.Keys.Needed.{first-earlier}
 use Rattle.base.specs.Outside.{Outside}
 use Rattle.base.specs.Part.{put}
-use Rattle.base.specs.Zero.{zeros-long, zeros-there, zeros-behind}
+use Rattle.buffer.specs.Zero.{zeros-long, zeros-there, zeros-behind}
 use Rattle.catalog.specs.Whole.{recordsOf}
 use Rattle.catalog.specs.declared.whole.Catalog.{Catalog}
 use Rattle.pack.specs.Reads.{length-steps, length-results}

@@ -8,7 +8,7 @@ use Rattle.base.specs.Upto.{Upto}
 use Rattle.catalog.specs.Whole.{recordsOf, Fits}
 use Rattle.catalog.specs.Same.{endOf, Same, same-records}
 use Rattle.catalog.specs.declared.whole.Catalog.{Catalog}
-use Rattle.certificate.specs.Marks.{marksAt, markOf, predicateAt, Marks}
+use Rattle.cuts.specs.Marks.{marksAt, markOf, predicateAt, Marks}
 
 module _ (e : ℕ) (work work′ : List ℕ) (c : Catalog) (U : Upto e work work′) where
   -- the tables are as they were

@@ -1,6 +1,6 @@
 // Cut steps.
 use catalog::whole::Catalog;
-use certificate::cut::cut_mark;
+use cuts::cut::cut_mark;
 use pack::node::node_head;
 use pack::step::step_judgment;
 ghost use mathlib.Core.Path.{_≡_};
@@ -9,7 +9,7 @@ ghost use lib.ListN.{length};
 ghost use Rattle.definition.specs.Keys.{predicateOf, isCut};
 ghost use Rattle.catalog.specs.Whole.{recordsOf};
 ghost use Rattle.pack.specs.Held.{Held, OfHeld};
-ghost use Rattle.certificate.specs.Marks.{Marks};
+ghost use Rattle.cuts.specs.Marks.{Marks};
 
 // The predicate of the judgment of step `s`.
 pub fn step_predicate(pack: &[u8], work: &[u32], c: Catalog, s: usize) -> u32

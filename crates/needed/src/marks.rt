@@ -1,9 +1,9 @@
 // Marks of the needed steps: a word a step, 1 or 0.
 use crate::cut::step_is_cut;
 use crate::firsts::first_of;
-use base::zero::zero_words;
+use buffer::zero::zero_words;
 use catalog::whole::Catalog;
-use pack::goal::result_step;
+use named::goal::result_step;
 use pack::step::step_ref;
 use pack::step::step_refs;
 ghost use mathlib.Core.Path.{_≡_};

@@ -6,7 +6,7 @@ use lib.ListN.{length, getD, drop}
 use Rattle.definition.specs.Little.{le}
 use Rattle.definition.specs.Theory.{words}
 use Rattle.definition.specs.Pack.{Symbol, Node, Step, Goal, Result, Cut, Abstract}
-use Rattle.catalog.specs.Place.{Place, noPlace, bodyAt}
+use Rattle.region.specs.Place.{Place, noPlace, bodyAt}
 
 -- the body of record i of these
 abbrev pub bodyOf : List ℕ → List Place → ℕ → List ℕ

@@ -5,7 +5,7 @@ use Prim.Native.Nat.{ℕ, _<_}
 use native.Mathlib.Omega.{arith}
 use Rattle.definition.specs.Pack.{Pack}
 use Rattle.definition.specs.Good.{Good, Once, Few}
-use Rattle.catalog.specs.Place.{Place}
+use Rattle.region.specs.Place.{Place}
 use Rattle.catalog.specs.Whole.{recordsOf, Cataloged}
 use Rattle.catalog.specs.Same.{Same, same-records, same-cataloged}
 use Rattle.catalog.specs.declared.whole.Catalog.{Catalog}

@@ -9,7 +9,7 @@ use Rattle.definition.specs.Little.{le}
 use Rattle.definition.specs.Theory.{words}
 use Rattle.base.specs.Part.{part, length-part}
 use Rattle.frame.specs.Row.{le-drop, word-at}
-use Rattle.catalog.specs.Place.{Place, noPlace, bodyAt, endOf, keyAt, Framed}
+use Rattle.region.specs.Place.{Place, noPlace, bodyAt, endOf, keyAt, Framed}
 use Rattle.catalog.specs.Whole.{recordsOf, Cataloged, record-framed}
 use Rattle.catalog.specs.declared.whole.Catalog.{Catalog}
 use Rattle.pack.specs.Body.{bodyOf}

@@ -4,5 +4,3 @@ pub mod Held
 pub mod Laws
 pub mod Reads
 pub mod Says
-pub mod Spelt
-pub mod Goals

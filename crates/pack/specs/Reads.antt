@@ -13,7 +13,7 @@ use Rattle.definition.specs.Theory.{words}
 use Rattle.definition.specs.Laws.Prefix.{termWords, termsWords}
 use Rattle.definition.specs.Verdict.{noGoal, noResult}
 use Rattle.definition.specs.Good.{noCut, noAbstract}
-use Rattle.catalog.specs.Place.{Place, noPlace, keyAt, bodyAt}
+use Rattle.region.specs.Place.{Place, noPlace, keyAt, bodyAt}
 use Rattle.pack.specs.Body.{bodyOf, symbolIn, nodeIn, stepIn, goalIn, resultIn, cutIn, abstractIn}
 
 -- ---- things read from places, one by one

@@ -12,10 +12,10 @@ use Rattle.definition.specs.Certificate.{count}
 use Rattle.definition.specs.Laws.Put.{length-words}
 use Rattle.definition.specs.Verdict.{noGoal, noResult}
 use Rattle.definition.specs.Good.{noCut, noAbstract}
-use Rattle.catalog.specs.Place.{Place, noPlace, keyAt}
+use Rattle.region.specs.Place.{Place, noPlace, keyAt}
 use Rattle.catalog.specs.Whole.{recordsOf, keyedKind, Cataloged, SoughtIn}
-use Rattle.catalog.specs.declared.region.Sought.{Sought}
-use Rattle.catalog.specs.declared.region.Sought.the-variants.{At, Nowhere}
+use Rattle.region.specs.declared.region.Sought.{Sought}
+use Rattle.region.specs.declared.region.Sought.the-variants.{At, Nowhere}
 use Rattle.catalog.specs.declared.whole.Catalog.{Catalog}
 use Rattle.pack.specs.Body.{bodyOf, symbolIn, nodeIn, stepIn, goalIn, resultIn, cutIn, abstractIn}
 use Rattle.pack.specs.Laws.{word-from, record-inside}

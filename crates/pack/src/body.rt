@@ -1,6 +1,6 @@
 // A record's body, read where it stands in the pack.
-use base::little::u16_at;
-use base::little::u32_at;
+use buffer::little::u16_at;
+use buffer::little::u32_at;
 use catalog::whole::Catalog;
 ghost use mathlib.Core.Path.{_≡_};
 ghost use Prim.Native.Nat.{_+_, _<_, _≤_};

@@ -2,9 +2,6 @@
 pub mod abstracted;
 pub mod body;
 pub mod cut;
-pub mod goal;
-pub mod name;
 pub mod node;
-pub mod rule;
 pub mod step;
 pub mod symbol;

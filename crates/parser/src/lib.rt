@@ -1,5 +1,5 @@
 // Reads a pack and forgets it, for the host's tests and benchmark of the reader.
-use base::zero::zero_words;
+use buffer::zero::zero_words;
 use call::answer::outcome_answer;
 use call::lent::Lent;
 use call::opening::open_pack;

@@ -22,7 +22,7 @@ use Rattle.theory.specs.Copies.Copying.{valueOf-new, valueOf-old, looked, newes
 use Rattle.theory.specs.Copies.CopyNode.{copyNode-nodes}
 use Rattle.theory.specs.Walks.Memo.{has, has-value}
 use Rattle.theory.specs.Walks.CopyWalk.{noCopy, isCopied, copy-known}
-use Rattle.copy.specs.Held.{wordOf}
+use Rattle.fresh.specs.Held.{wordOf}
 use Rattle.premise.specs.Noted.{said, said-append}
 
 -- ---- what a node's copy adds

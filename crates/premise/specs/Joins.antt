@@ -8,7 +8,7 @@ use lib.ListN.{length, getD}
 use Rattle.definition.specs.Graph.{Graph, Unified, unify}
 use Rattle.base.specs.Part.{part, put, part-at, part-same, part-put, length-part, length-put, put-before, put-at, put-behind, part-put-before}
 use Rattle.base.specs.Outside.{Outside, outside-put, outside-then, outside-wider, part-ahead, part-behind}
-use Rattle.store.specs.declared.memo.Memo.{Memo}
+use Rattle.memo.specs.declared.memo.Memo.{Memo}
 use Rattle.graph.specs.declared.graph.Graph.{Graph as Counts}
 use Rattle.unify.specs.declared.unify.Outcome.the-variants.{Joined, Clash as Unlike}
 use Rattle.graph.specs.Cells.{rowsEnd, nodes-few, Shows, SameRows, shows-rows, Unchanged}

@@ -5,7 +5,7 @@ use Prim.Native.Nat.{ℕ, _+_, _*_, _/_, _-_, _≤_}
 use native.Mathlib.Omega.{arith}
 use lib.ListN.{length}
 use Rattle.base.specs.Part.{part}
-use Rattle.copy.specs.declared.walk.Copying.{Copying}
+use Rattle.fresh.specs.declared.node.Copying.{Copying}
 use Rattle.instantiate.specs.declared.terms.Place.{Place}
 use Rattle.premise.specs.declared.layout.Layout.{Layout}
 

@@ -15,13 +15,13 @@ use Rattle.definition.specs.Laws.Suffix.{all-words}
 use Rattle.base.specs.Part.{part}
 use Rattle.base.specs.Outside.{Outside, outside-then, outside-wider, part-ahead, part-behind}
 use Rattle.base.specs.declared.id.Node.{Node}
-use Rattle.store.specs.declared.memo.Memo.{Memo}
+use Rattle.memo.specs.declared.memo.Memo.{Memo}
 use Rattle.catalog.specs.Same.{endOf}
 use Rattle.catalog.specs.Whole.{recordsOf}
 use Rattle.catalog.specs.declared.whole.Catalog.{Catalog}
 use Rattle.pack.specs.Reads.{Reads}
 use Rattle.pack.specs.Held.{Proper, Held, OfHeld}
-use Rattle.pack.specs.Spelt.{Spelt, SpeltAll}
+use Rattle.clause.specs.Spelt.{Spelt, SpeltAll}
 use Rattle.graph.specs.declared.graph.Graph.{Graph as Counts}
 use Rattle.graph.specs.declared.graph.Pushed.the-variants.{At, Short as Full}
 use Rattle.graph.specs.Cells.{rowsEnd, nodes-few, Shows, cells-more}

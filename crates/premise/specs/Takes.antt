@@ -17,8 +17,8 @@ use Rattle.base.specs.Part.{part, length-part, part-lent}
 use Rattle.base.specs.Outside.{Outside, outside-then, outside-wider, part-ahead, part-behind}
 use Rattle.base.specs.declared.id.Node.{Node as Id}
 use Rattle.store.specs.Stored.{Stored, nodes}
-use Rattle.store.specs.Recall.{Remembers}
-use Rattle.store.specs.declared.memo.Memo.{Memo}
+use Rattle.memo.specs.Recall.{Remembers}
+use Rattle.memo.specs.declared.memo.Memo.{Memo}
 use Rattle.store.specs.declared.nodes.Store.{Store}
 use Rattle.catalog.specs.Same.{endOf, Same}
 use Rattle.catalog.specs.Whole.{recordsOf}
@@ -28,9 +28,9 @@ use Rattle.pack.specs.Held.{Held, OfHeld, held-on, reads-on}
 use Rattle.graph.specs.declared.graph.Graph.{Graph as Counts}
 use Rattle.graph.specs.Cells.{rowsEnd, nodes-few, Shows}
 use Rattle.graph.specs.Inner.{Inner, HoldsInner, many-nodes}
-use Rattle.copy.specs.Held.{Patterns, marksIn, Given, Made, Copies}
-use Rattle.copy.specs.declared.walk.Copied.the-variants as answers
-use Rattle.copy.specs.declared.walk.Copied.{Copied}
+use Rattle.fresh.specs.Held.{Patterns, marksIn, Given, Made, Copies}
+use Rattle.fresh.specs.declared.node.Copied.the-variants as answers
+use Rattle.fresh.specs.declared.node.Copied.{Copied}
 use Rattle.premise.specs.declared.layout.Layout.{Layout}
 use Rattle.premise.specs.declared.premise.Premise.{Premise}
 use Rattle.premise.specs.declared.premise.Taken.{Taken}

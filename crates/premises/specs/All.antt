@@ -15,12 +15,12 @@ use Rattle.definition.specs.Classes.{Built, Premises, takePremises}
 use Rattle.definition.specs.declared.Refusal.the-variants.{Clash as Clashes, Short as TooShort}
 use Rattle.base.specs.Outside.{Outside, outside-none, outside-then}
 use Rattle.base.specs.declared.id.Node.{Node}
-use Rattle.store.specs.declared.memo.Memo.{Memo}
+use Rattle.memo.specs.declared.memo.Memo.{Memo}
 use Rattle.store.specs.declared.nodes.Store.{Store}
 use Rattle.catalog.specs.declared.whole.Catalog.{Catalog}
 use Rattle.graph.specs.declared.graph.Graph.{Graph as Counts}
-use Rattle.keys.specs.declared.classes.Keying.{Keying}
-use Rattle.keys.specs.declared.classes.Counts.{Counts as KeyCounts}
+use Rattle.key.specs.declared.classes.Keying.{Keying}
+use Rattle.key.specs.declared.classes.Counts.{Counts as KeyCounts}
 use Rattle.premise.specs.declared.layout.Layout.{Layout}
 use Rattle.premise.specs.declared.premise.Taken.the-variants as taken
 use Rattle.kept.specs.Runs.{outcome-return-end}

@@ -7,7 +7,7 @@ use lib.ListN.{length, getD}
 use Rattle.definition.specs.Pack.{Terms, Pack, stepOf}
 use Rattle.definition.specs.Keys.{firstOf}
 use Rattle.definition.specs.Classes.{Built, Premises}
-use Rattle.store.specs.declared.memo.Memo.{Memo}
+use Rattle.memo.specs.declared.memo.Memo.{Memo}
 use Rattle.store.specs.declared.nodes.Store.{Store}
 use Rattle.catalog.specs.Whole.{recordsOf}
 use Rattle.catalog.specs.declared.whole.Catalog.{Catalog}
@@ -16,8 +16,8 @@ use Rattle.pack.specs.Says.{Readable, OfPack}
 use Rattle.graph.specs.declared.graph.Graph.{Graph as Counts}
 use Rattle.needed.specs.Firsts.{Noted}
 use Rattle.keys.specs.Keyed.{keyed-noted}
-use Rattle.keys.specs.declared.classes.Keying.{Keying}
-use Rattle.keys.specs.declared.classes.Counts.{Counts as KeyCounts}
+use Rattle.key.specs.declared.classes.Keying.{Keying}
+use Rattle.key.specs.declared.classes.Counts.{Counts as KeyCounts}
 use Rattle.premise.specs.Takes.{Taking, TakesTo}
 use Rattle.premise.specs.declared.layout.Layout.{Layout}
 use Rattle.premise.specs.declared.premise.Premise.{Premise}

@@ -31,21 +31,21 @@ use Rattle.base.specs.Outside.{Outside}
 use Rattle.base.specs.Upto.{upto-outside}
 use Rattle.base.specs.declared.id.Node.{Node as Id}
 use Rattle.store.specs.Stored.{nodes}
-use Rattle.store.specs.declared.memo.Memo.{Memo}
+use Rattle.memo.specs.declared.memo.Memo.{Memo}
 use Rattle.store.specs.declared.nodes.Store.{Store}
 use Rattle.catalog.specs.Whole.{recordsOf}
 use Rattle.catalog.specs.declared.whole.Catalog.{Catalog}
 use Rattle.pack.specs.Held.{Proper, Held}
 use Rattle.pack.specs.Reads.{Reads, length-steps, ruleWords}
-use Rattle.pack.specs.Spelt.{Spelt, words-most}
+use Rattle.clause.specs.Spelt.{Spelt, words-most}
 use Rattle.graph.specs.declared.graph.Graph.{Graph as Counts}
 use Rattle.graph.specs.Cells.{Shows}
 use Rattle.graph.specs.Inner.{Inner, many-nodes}
-use Rattle.copy.specs.Held.{Patterns, marksIn}
+use Rattle.fresh.specs.Held.{Patterns, marksIn}
 use Rattle.kept.specs.Unified.{unify-same}
 use Rattle.kept.specs.FewArgs.{FewArgs, few-copy, few-instance, few-unify}
-use Rattle.keys.specs.declared.classes.Keying.{Keying}
-use Rattle.keys.specs.declared.classes.Counts.{Counts as KeyCounts}
+use Rattle.key.specs.declared.classes.Keying.{Keying}
+use Rattle.key.specs.declared.classes.Counts.{Counts as KeyCounts}
 use Rattle.premise.specs.Layout.{tableIn}
 use Rattle.premise.specs.Joins.{copiesIn}
 use Rattle.premise.specs.Meets.{SpellsAt, instantiate-longer}

@@ -1,14 +1,14 @@
 // The premises of a rule one by one, each unified with a copy of the conclusion of its ref's class.
 use catalog::whole::Catalog;
 use graph::graph::Graph;
-use keys::classes::Keying;
+use key::classes::Keying;
+use memo::memo::Memo;
 use needed::firsts::first_of;
 use pack::step::step_ref;
 use premise::layout::Layout;
 use premise::premise::Premise;
 use premise::premise::Taken;
 use premise::premise::take_premise;
-use store::memo::Memo;
 use store::nodes::Store;
 ghost use Rattle.premises.specs.Next.{Nexting, Nexts};
 ghost use Rattle.premises.specs.All.{Starting, TakesAll};

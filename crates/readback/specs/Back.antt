@@ -18,7 +18,7 @@ use Rattle.theory.specs.Walks.Reading.{numberedAs, resolvedAs}
 use Rattle.theory.specs.Walks.Resolving.{Resolving, resolving}
 use Rattle.base.specs.Part.{part, put, length-part}
 use Rattle.base.specs.declared.id.Pattern.{Pattern}
-use Rattle.base.specs.Zero.{zeros-long, zeros-there, zeros-before, zeros-behind}
+use Rattle.buffer.specs.Zero.{zeros-long, zeros-there, zeros-before, zeros-behind}
 use Rattle.store.specs.Words.{begins-long}
 use Rattle.store.specs.Stored.{nodes}
 use Rattle.store.specs.declared.nodes.Store.{Store}
@@ -32,12 +32,12 @@ use Rattle.lift.specs.declared.walk.Lifted.{Lifted}
 use Rattle.graph.specs.declared.graph.Graph.{Graph as Counts}
 use Rattle.graph.specs.Cells.{rowsEnd, Shows, nodes-few, shows-rows}
 use Rattle.graph.specs.Pushes.{cells-shown}
-use Rattle.root.specs.declared.words.Table.{Table}
+use Rattle.table.specs.declared.words.Table.{Table}
 use Rattle.root.specs.declared.root.Resolved.{Resolved}
 use Rattle.root.specs.declared.root.Resolved.the-variants as read
-use Rattle.root.specs.Words.{valuesAt, patternsAt, numbersAt, tableEnd, tableIn, wordOf, Grounded, Lies, Holding, Ready}
-use Rattle.root.specs.Kept.{lifts-on}
-use Rattle.root.specs.Moved.{table-at, table-long, numbers-most}
+use Rattle.table.specs.Words.{valuesAt, patternsAt, numbersAt, tableEnd, tableIn, wordOf, Grounded, Lies, Holding, Ready}
+use Rattle.table.specs.Kept.{lifts-on}
+use Rattle.table.specs.Moved.{table-at, table-long, numbers-most}
 use Rattle.resolve.specs.Stacks.{Clears, Answers}
 use Rattle.readback.specs.declared.answer.Walk.{Walk}
 use Rattle.readback.specs.declared.answer.Walk.the-variants.{Done, Refused}

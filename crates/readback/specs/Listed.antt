@@ -17,7 +17,7 @@ use Rattle.definition.specs.Good.{Below}
 use Rattle.definition.specs.Store.{isVariable, variableHead, below, placeOf, intern, patternWords}
 use Rattle.theory.specs.Copies.Terms.{below-variable, below-applied}
 use Rattle.store.specs.Words.{nodeWith}
-use Rattle.copy.specs.Held.{Patterns}
+use Rattle.fresh.specs.Held.{Patterns}
 
 -- ---- the definition
 -- the node ahead

@@ -20,8 +20,8 @@ use Rattle.catalog.specs.declared.whole.Catalog.{Catalog}
 use Rattle.lift.specs.Lifts.{Lifts}
 use Rattle.lift.specs.Nodes.{laid-same}
 use Rattle.lift.specs.declared.walk.Lifted.{Lifted}
-use Rattle.root.specs.Kept.{Indexed, Interns}
-use Rattle.copy.specs.Held.{Patterns}
+use Rattle.table.specs.Kept.{Indexed, Interns}
+use Rattle.fresh.specs.Held.{Patterns}
 use Rattle.readback.specs.declared.list.Turn.{Turn}
 use Rattle.readback.specs.declared.list.Turn.the-variants.{Next, Broken, Full}
 use Rattle.readback.specs.declared.list.Listed.{Listed as Came}

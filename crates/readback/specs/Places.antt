@@ -9,16 +9,15 @@ use Rattle.definition.specs.Pack.{Pack}
 use Rattle.definition.specs.Frame.{fine}
 use Rattle.definition.specs.Parse.{parse}
 use Rattle.definition.specs.Answer.{lengths}
-use Rattle.definition.specs.Laws.Good.{parsed-good, parsed-once, parsed-few}
 use Rattle.base.specs.Part.{part, put, part-lent, length-part, length-put, put-before, part-put, part-put-before}
 use Rattle.store.specs.Stored.{Enough, Stored, nodes}
 use Rattle.store.specs.declared.nodes.Store.{Store}
-use Rattle.catalog.specs.Whole.{recordsOf, Fits, Cataloged}
+use Rattle.catalog.specs.Whole.{recordsOf, Fits}
 use Rattle.catalog.specs.Same.{Same, endOf, same-records}
 use Rattle.catalog.specs.declared.whole.Catalog.{Catalog}
-use Rattle.pack.specs.Reads.{Reads}
-use Rattle.pack.specs.Held.{Proper, Held, held-on}
+use Rattle.pack.specs.Held.{Held, held-on}
 use Rattle.reader.specs.Parsed.{tablesOf, Represents}
+use Rattle.reader.specs.Said.{represents-held}
 use Rattle.call.specs.Lengths.{Fit, lengths-fit}
 use Rattle.lift.specs.Lifts.{indexAt, indexIn, Laid, Lifts, Clears}
 use Rattle.lift.specs.declared.walk.Lifted.{Lifted}
@@ -35,18 +34,9 @@ pub record Opened (bytes work : List ℕ) (patterns cells : ℕ) : Type 0 where
 pub opens : (bytes work : List ℕ) (patterns cells n : ℕ) → length work ≡ n → lengths (lentTo (length bytes) patterns cells n) ≡ none → (P : Pack) → parse bytes ≡ fine P → Represents bytes work P → Opened bytes work patterns cells
 opens bytes work patterns cells n m e P p R = record { fit = subst (λ (k : ℕ). Fit (lentTo (length bytes) patterns cells k)) (sym m) (lengths-fit (lentTo (length bytes) patterns cells n) e); pack = P; parsed = p; represents = R }
 
--- every parsed pack is proper
-pub proper : (bytes : List ℕ) (P : Pack) → parse bytes ≡ fine P → Proper P
-proper bytes P f = record { good = parsed-good bytes P f; once = parsed-once bytes P f; few = parsed-few bytes P f }
-
 -- the pack is held
 abbrev pub held-there : (bytes work : List ℕ) (patterns cells : ℕ) → Opened bytes work patterns cells → (c : Catalog) → c ≡ tablesOf (length bytes) → Held bytes work c
-held-there bytes work patterns cells O c e = record {
-  cataloged = subst (Cataloged bytes work) (sym e) (O .represents .reading .cataloged);
-  pack = O .pack;
-  reads = subst (λ (x : Catalog). Reads bytes (recordsOf work x) (O .pack)) (sym e) (O .represents .reads);
-  proper = proper bytes (O .pack) (O .parsed);
-}
+held-there bytes work patterns cells O c e = represents-held bytes work c e (O .pack) (O .parsed) (O .represents)
 
 -- where lifting's words stand: behind the pack's tables and the marks of its cuts
 pub record Lays (work : List ℕ) (patterns : ℕ) (c : Catalog) (l : Lifted) : Type 0 where

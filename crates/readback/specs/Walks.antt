@@ -13,7 +13,7 @@ use Rattle.definition.specs.Store.{patternWords}
 use Rattle.definition.specs.Answer.{Lent, answer, answerOf, lengths, padded}
 use Rattle.definition.specs.declared.Answer.{Answer}
 use Rattle.definition.specs.declared.Refusal.{Refusal}
-use Rattle.base.specs.Zero.{zeroed}
+use Rattle.buffer.specs.Zero.{zeroed}
 use Rattle.base.specs.declared.id.Pattern.{Pattern}
 use Rattle.store.specs.Words.{begins-long, begins-take}
 use Rattle.store.specs.Stored.{Stored, nodes}

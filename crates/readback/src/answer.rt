@@ -1,7 +1,7 @@
 // What a call came to, and its answer with the buffers cleared.
 use base::id::Pattern;
-use base::zero::zero_words;
-use base::zero::zero_words_from;
+use buffer::zero::zero_words;
+use buffer::zero::zero_words_from;
 use store::nodes::Store;
 ghost use mathlib.Core.Path.{_≡_};
 ghost use lib.ListN.{length};

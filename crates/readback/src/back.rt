@@ -1,18 +1,18 @@
 // A node of a graph read back into a store, with all variables numbered.
 use crate::answer::Walk;
 use base::id::Node;
-use base::zero::zero_words;
+use buffer::zero::zero_words;
 use catalog::whole::Catalog;
 use graph::graph::Graph;
 use lift::walk::Lifted;
 use resolve::walk::clear;
 use resolve::walk::resolve;
 use root::root::Resolved;
-use root::words::Table;
 use store::nodes::Store;
+use table::words::Table;
 ghost use Prim.Native.Nat.{_+_, _≤_, _<_};
 ghost use lib.ListN.{length};
-ghost use Rattle.root.specs.Words.{tableEnd};
+ghost use Rattle.table.specs.Words.{tableEnd};
 ghost use Rattle.readback.specs.Back.{Standing, Blank, Backs};
 
 // No node has a ground value.

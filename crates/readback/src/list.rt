@@ -2,9 +2,9 @@
 use base::id::Pattern;
 use catalog::whole::Catalog;
 use lift::walk::Lifted;
-use root::words::intern_key;
 use store::nodes::Interned;
 use store::nodes::Store;
+use table::words::intern_key;
 ghost use mathlib.Core.Path.{_≡_};
 ghost use mathlib.Core.List.{[]};
 ghost use Prim.Native.Nat.{_<_};

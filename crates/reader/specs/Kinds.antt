@@ -13,7 +13,7 @@ use Rattle.catalog.specs.declared.whole.Catalog.{Catalog}
 use Rattle.horn.specs.Taking.{Takes}
 use Rattle.horn.specs.declared.taken.Taken.{Taken}
 use Rattle.horn.specs.declared.taken.Taken.the-variants.{Good, Bad, Over}
-use Rattle.certificate.specs.Marks.{Marks, Advances, takes-advances}
+use Rattle.cuts.specs.Marks.{Marks, Advances, takes-advances}
 
 -- tests that are the same answer the same
 pub advances-by : (bytes work work′ : List ℕ) (c : Catalog) (end : ℕ) (take take′ : Pack → Checked Pack) (r : Taken) → ((P : Pack) → take′ P ≡ take P) → Advances bytes work work′ c end take r → Advances bytes work work′ c end take′ r

@@ -2,3 +2,4 @@
 pub mod Kinds
 pub mod Walk
 pub mod Parsed
+pub mod Said

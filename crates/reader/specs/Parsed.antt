@@ -15,7 +15,7 @@ use Rattle.catalog.specs.Whole.{recordsOf, Fits, Cleared}
 use Rattle.catalog.specs.declared.whole.Catalog.{Catalog}
 use Rattle.pack.specs.Reads.{Reads, read-none}
 use Rattle.horn.specs.Taking.{Reading}
-use Rattle.certificate.specs.Marks.{Marks, marksAt, Beyond}
+use Rattle.cuts.specs.Marks.{Marks, marksAt, Beyond}
 use Rattle.reader.specs.Walk.{Walking}
 use Rattle.reader.specs.declared.parsed.Parsed.{Parsed}
 use Rattle.reader.specs.declared.parsed.Parsed.the-variants as parsed

@@ -13,7 +13,7 @@ use Rattle.definition.specs.Good.{Good}
 use Rattle.definition.specs.Laws.Frame.{records-one, records-bad, records-over, records-cut}
 use Rattle.definition.specs.Laws.Good.{record-good}
 use Rattle.base.specs.Part.{part}
-use Rattle.catalog.specs.Place.{Place}
+use Rattle.region.specs.Place.{Place}
 use Rattle.catalog.specs.Whole.{recordsOf}
 use Rattle.catalog.specs.declared.whole.Catalog.{Catalog}
 use Rattle.frame.specs.Header.{Heads}
@@ -24,7 +24,7 @@ use Rattle.horn.specs.Taking as taking
 use Rattle.horn.specs.Sound.{Sound}
 use Rattle.horn.specs.declared.taken.Taken.{Taken}
 use Rattle.horn.specs.declared.taken.Taken.the-variants as taken
-use Rattle.certificate.specs.Marks.{Marks, Beyond, Advances}
+use Rattle.cuts.specs.Marks.{Marks, Beyond, Advances}
 use Rattle.reader.specs.declared.walk.Next.{Next}
 use Rattle.reader.specs.declared.walk.Next.the-variants as next
 

@@ -1,11 +1,11 @@
 // The whole pack.
 use crate::walk::Next;
 use crate::walk::take_next;
-use base::zero::zero_words;
+use buffer::zero::zero_words;
 use catalog::whole::Catalog;
 ghost use mathlib.Core.Path.{_≡_};
 ghost use lib.ListN.{length};
-ghost use Rattle.certificate.specs.Marks.{Beyond};
+ghost use Rattle.cuts.specs.Marks.{Beyond};
 ghost use Rattle.reader.specs.Walk.{Walking};
 ghost use Rattle.reader.specs.Parsed.{tablesOf, Room, Parses};
 

@@ -1,11 +1,11 @@
 // From one record to the next.
 use catalog::whole::Catalog;
 use certificate::abstracted::take_abstract;
-use certificate::cut::take_cut;
 use certificate::goal::take_goal;
 use certificate::node::take_node;
 use certificate::result::take_result;
 use certificate::step::take_step;
+use cuts::cut::take_cut;
 use frame::header::Header;
 use frame::header::header_at;
 use horn::rule::take_rule;
@@ -17,7 +17,7 @@ ghost use lib.ListN.{length};
 ghost use Rattle.definition.specs.Parse.{takeRecord};
 ghost use Rattle.horn.specs.Taking.{Reading, Whole, behind};
 ghost use Rattle.horn.specs.Sound.{Sound};
-ghost use Rattle.certificate.specs.Marks.{Marks, Advances};
+ghost use Rattle.cuts.specs.Marks.{Marks, Advances};
 ghost use Rattle.reader.specs.Walk.{Walking, Goes};
 
 // Behind a record: the next one starts here, behind one of this kind; or the record is against its form, or over a limit.

@@ -4,9 +4,9 @@ use mathlib.Core.List.{List}
 use Prim.Native.Nat.{ℕ, _+_, _*_, _/_, _≤_}
 use lib.ListN.{length}
 use Rattle.catalog.specs.declared.whole.Catalog.{Catalog}
-use Rattle.certificate.specs.Marks.{marksAt}
-use Rattle.keys.specs.Words.{endOf}
-use Rattle.keys.specs.declared.classes.Keying.{Keying}
+use Rattle.cuts.specs.Marks.{marksAt}
+use Rattle.key.specs.Words.{endOf}
+use Rattle.key.specs.declared.classes.Keying.{Keying}
 use Rattle.premise.specs.declared.layout.Layout.{Layout}
 use Rattle.rows.specs.Standing.{Placed}
 

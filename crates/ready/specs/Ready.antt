@@ -5,6 +5,8 @@ use Prim.Native.Nat.{ℕ, _+_, _*_, _≤_, _<_}
 use native.Mathlib.Omega.{arith}
 use lib.ListN.{length}
 use Rattle.definition.specs.Pack.{Pack}
+use Rattle.definition.specs.Frame.{fine}
+use Rattle.definition.specs.Parse.{parse}
 use Rattle.definition.specs.Frame.{refuse}
 use Rattle.definition.specs.Answer.{Lent, mostCells}
 use Rattle.definition.specs.Run.{outcome}
@@ -13,27 +15,28 @@ use Rattle.definition.specs.Classes.{Built, makeClasses, buildClasses}
 use Rattle.definition.specs.declared.Refusal.the-variants as refusals
 use Rattle.base.specs.Outside.{Outside}
 use Rattle.base.specs.Upto.{Upto, upto-then, upto-outside}
-use Rattle.store.specs.declared.memo.Memo.{Memo}
+use Rattle.memo.specs.declared.memo.Memo.{Memo}
 use Rattle.store.specs.declared.nodes.Store.{Store}
 use Rattle.catalog.specs.Whole.{recordsOf, records-few}
 use Rattle.catalog.specs.Same.{Same, same-records}
 use Rattle.catalog.specs.declared.whole.Catalog.{Catalog}
 use Rattle.pack.specs.Reads.{length-steps}
-use Rattle.pack.specs.Held.{Proper, Held, OfHeld, held-on, reads-on}
-use Rattle.certificate.specs.Marks.{Marks}
+use Rattle.pack.specs.Held.{Held, OfHeld, held-on, reads-on}
+use Rattle.cuts.specs.Marks.{Marks}
 use Rattle.reader.specs.Parsed.{tablesOf, Represents}
-use Rattle.copy.specs.Held.{Patterns}
+use Rattle.reader.specs.Said.{represents-held}
+use Rattle.fresh.specs.Held.{Patterns}
 use Rattle.kept.specs.Runs.{outcome-note, outcome-short, length-class}
 use Rattle.kept.specs.Interns.{patterns-none}
 use Rattle.kept.specs.Variables.{VariablesBelow, variables-none}
 use Rattle.needed.specs.Upto.{upto-same}
-use Rattle.keys.specs.Words.{endOf, Keyable}
+use Rattle.key.specs.Words.{endOf, Keyable}
 use Rattle.keys.specs.Keyed.{KeyedWork, keyed-work-on}
-use Rattle.keys.specs.declared.classes.Keying.{Keying}
-use Rattle.keys.specs.declared.classes.Counts.{Counts}
+use Rattle.key.specs.declared.classes.Keying.{Keying}
+use Rattle.key.specs.declared.classes.Counts.{Counts}
 use Rattle.premise.specs.Layout.{laid-on}
 use Rattle.premise.specs.declared.layout.Layout.{Layout}
-use Rattle.root.specs.Kept.{lifts-on}
+use Rattle.table.specs.Kept.{lifts-on}
 use Rattle.rows.specs.Rows.{rows-none}
 use Rattle.rows.specs.Standing.{Standing, liftedOf}
 use Rattle.ready.specs.Places.{keyingOf, Roomy, Places}
@@ -50,11 +53,11 @@ pub record Opened (bytes work words cells : List ℕ) (c : Catalog) : Type 0 whe
   pub room : 16 * (length words + length cells + length bytes) + 1024 ≤ length work
 
 -- so it is when a pack was opened
-pub opened : (bytes work words cells : List ℕ) (c : Catalog) → c ≡ tablesOf (length bytes) → (P : Pack) → Represents bytes work P → Proper P → length words ≤ mostCells
+pub opened : (bytes work words cells : List ℕ) (c : Catalog) → c ≡ tablesOf (length bytes) → (P : Pack) → parse bytes ≡ fine P → Represents bytes work P → length words ≤ mostCells
     → 16 * (length words + length cells + length bytes) + 1024 ≤ length work → Opened bytes work words cells c
-opened bytes work words cells c e P R p small room = record {
+opened bytes work words cells c e P f R small room = record {
   tables = e;
-  held = subst (Held bytes work) (sym e) (record { cataloged = R .reading .cataloged; pack = P; reads = R .reads; proper = p });
+  held = represents-held bytes work c e P f R;
   marks = subst (Marks bytes work) (sym e) (R .marks);
   small = small;
   room = room;

@@ -7,8 +7,8 @@ use lib.ListN.{length}
 use Rattle.base.specs.Part.{put, length-part, part-put}
 use Rattle.base.specs.Outside.{Outside, outside-put}
 use Rattle.store.specs.Stored.{Stored, nodes, Enough}
-use Rattle.store.specs.Recall.{Remembers}
-use Rattle.store.specs.declared.memo.Memo.{Memo}
+use Rattle.memo.specs.Recall.{Remembers}
+use Rattle.memo.specs.declared.memo.Memo.{Memo}
 use Rattle.store.specs.declared.nodes.Store.{Store}
 use Rattle.catalog.specs.Whole.{recordsOf}
 use Rattle.catalog.specs.Same.{Same, same-records, endOf as tablesEnd}

@@ -1,10 +1,10 @@
 // Where class building has its words in work, one place behind the other.
 use catalog::whole::Catalog;
-use keys::classes::Keying;
+use key::classes::Keying;
 use premise::layout::Layout;
 ghost use mathlib.Core.Path.{_≡_};
 ghost use Prim.Native.Nat.{_<_};
-ghost use Rattle.keys.specs.Words.{endOf};
+ghost use Rattle.key.specs.Words.{endOf};
 ghost use Rattle.ready.specs.Places.{keyingOf, Roomy, Places};
 
 // The keys stand behind the tables and their marks.

@@ -4,11 +4,11 @@ use crate::places::layout;
 use crate::tables::begin_memo;
 use crate::tables::begin_store;
 use catalog::whole::Catalog;
-use keys::classes::Counts;
-use keys::classes::Keying;
+use key::classes::Counts;
+use key::classes::Keying;
 use keys::steps::key_steps;
+use memo::memo::Memo;
 use premise::layout::Layout;
-use store::memo::Memo;
 use store::nodes::Store;
 ghost use Rattle.ready.specs.Ready.{Opened, Readies};
 

@@ -1,7 +1,7 @@
 // The tables of class building without entries: the store's index, lifting's words, what pattern nodes were copied to.
 use lift::walk::Lifted;
+use memo::memo::Memo;
 use premise::layout::Layout;
-use store::memo::Memo;
 use store::nodes::Store;
 ghost use Prim.Native.Nat.{_≤_};
 ghost use lib.ListN.{length};

@@ -7,10 +7,10 @@ use native.Mathlib.Omega.{arith}
 use lib.ListN.{length, take, set, getD, replicate, length-append, length-set, length-replicate, replicate-append-replicate}
 use lib.Seq.{length-take-le, take-suc, take-suc-set, drop-at}
 use Rattle.base.specs.Part.{put-none}
-use Rattle.base.specs.Zero.{zeroed}
-use Rattle.base.specs.Text.{Wrote, write, over, over-last, take-over, length-over, write-fits, write-short, wrote-end, wrote-short}
-use Rattle.base.specs.declared.decimal.Put.{Put}
-use Rattle.base.specs.declared.decimal.Put.the-variants.{End, Short}
+use Rattle.buffer.specs.Zero.{zeroed}
+use Rattle.buffer.specs.Text.{Wrote, write, over, over-last, take-over, length-over, write-fits, write-short, wrote-end, wrote-short}
+use Rattle.buffer.specs.declared.decimal.Put.{Put}
+use Rattle.buffer.specs.declared.decimal.Put.the-variants.{End, Short}
 
 -- from the text t, of which `at` bytes count, to the text u with bs behind them; or that there was no room
 unfoldable pub Added : List ℕ → ℕ → List ℕ → List ℕ → Put → Type 0

@@ -1,9 +1,9 @@
 // Lists the records of a pack that it reads: offset, kind and body length, a line for each.
-use base::decimal::Put;
+use buffer::decimal::Put;
 ghost use mathlib.Core.Path.{_≡_};
 ghost use Prim.Native.Nat.{_≤_};
 ghost use lib.ListN.{length, replicate};
-ghost use Rattle.base.specs.Text.{Wrote, write};
+ghost use Rattle.buffer.specs.Text.{Wrote, write};
 ghost use Rattle.records.specs.Lines.{recordAt, field, line, cutLine, lines};
 ghost use Rattle.records.specs.Added.{Added};
 
@@ -21,11 +21,11 @@ fn record_at(pack: &[u8], at: usize) -> Record
     if pack.len() - at < 6 {
         return Record::Cut;
     }
-    let n = base::little::u32_at(pack, at) as usize;
+    let n = buffer::little::u32_at(pack, at) as usize;
     if pack.len() - (at + 6) < n {
         return Record::Cut;
     }
-    let kind = base::little::u16_at(pack, at + 4);
+    let kind = buffer::little::u16_at(pack, at + 4);
     Record::Whole(kind, n)
 }
 
@@ -51,7 +51,7 @@ fn put_bytes(text: &mut [u8], at: usize, bytes: &[u8]) -> Put
 fn put_field(text: &mut [u8], at: usize, n: u64, last: u8) -> Put
     ensures { λ r. ⌜ Added (now (text .entry)) at (field n last) (now (text .exit)) r ⌝ }
 {
-    let Put::End(end) = base::decimal::put_decimal(text, at, n) else {
+    let Put::End(end) = buffer::decimal::put_decimal(text, at, n) else {
         return Put::Short;
     };
     if text.len() <= end {
@@ -110,10 +110,10 @@ pub fn list(pack: &[u8], text: &mut [u8]) -> Put
 {
     let put = put_lines(pack, text);
     let Put::End(end) = put else {
-        base::zero::zero_bytes(text);
+        buffer::zero::zero_bytes(text);
         return Put::Short;
     };
-    base::zero::zero_bytes_from(text, end);
+    buffer::zero::zero_bytes_from(text, end);
     Put::End(end)
 }
 

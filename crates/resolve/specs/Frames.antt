@@ -14,17 +14,17 @@ use Rattle.theory.specs.Walks.Machine.{frame}
 use Rattle.theory.specs.Walks.Reading.{numberedAs}
 use Rattle.theory.specs.Walks.Resolving.{right-none}
 use Rattle.base.specs.Part.{part, put, part-at, length-part}
-use Rattle.base.specs.Zero.{zeros-long, zeros-there, zeros-before, zeros-behind}
+use Rattle.buffer.specs.Zero.{zeros-long, zeros-there, zeros-before, zeros-behind}
 use Rattle.store.specs.Stored.{nodes}
 use Rattle.lift.specs.Lifts.{framesIn}
 use Rattle.lift.specs.Memo.{frames-same}
 use Rattle.graph.specs.declared.graph.Graph.{Graph as Counts}
 use Rattle.graph.specs.Cells.{rowsEnd, nodes-few}
 use Rattle.graph.specs.Links.{Found}
-use Rattle.root.specs.declared.words.Table.{Table}
-use Rattle.root.specs.Words.{patternsAt, tableEnd, tableIn, marksIn, Moves}
-use Rattle.root.specs.Moved.{table-at, table-set, table-long, moves-then, moves-set, found-moves}
-use Rattle.root.specs.Asked.{Asking, Rooted, finds-moves, finds-word}
+use Rattle.table.specs.declared.words.Table.{Table}
+use Rattle.table.specs.Words.{patternsAt, tableEnd, tableIn, marksIn, Moves}
+use Rattle.table.specs.Moved.{table-at, table-set, table-long, moves-then, moves-set, found-moves}
+use Rattle.table.specs.Asked.{Asking, Rooted, finds-moves, finds-word}
 use Rattle.root.specs.Given.{lies-same}
 use Rattle.resolve.specs.Stacks.{framesOf, Entering, Enters, Begins, Clears}
 

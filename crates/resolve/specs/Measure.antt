@@ -23,8 +23,8 @@ use Rattle.lift.specs.Lifts.{framesIn}
 use Rattle.graph.specs.declared.graph.Graph.{Graph as Counts}
 use Rattle.graph.specs.Cells.{graphIn, rowsEnd, Shows}
 use Rattle.graph.specs.Links.{graph-past}
-use Rattle.root.specs.Words.{marksIn, Says}
-use Rattle.root.specs.Asked.{graph-long}
+use Rattle.table.specs.Words.{marksIn, Says}
+use Rattle.table.specs.Asked.{graph-long}
 use Rattle.resolve.specs.Turns.{read-mark}
 
 -- ---- an image of the state on which the same nodes are known, and that goes along with finishing

@@ -26,11 +26,11 @@ use Rattle.lift.specs.Runs.{written-again, words-grow}
 use Rattle.lift.specs.declared.walk.Lifted.{Lifted}
 use Rattle.graph.specs.declared.graph.Graph.{Graph as Counts}
 use Rattle.graph.specs.Cells.{rowsEnd}
-use Rattle.root.specs.declared.words.Table.{Table}
+use Rattle.table.specs.declared.words.Table.{Table}
 use Rattle.resolve.specs.declared.walk.Turn.the-variants as turns
-use Rattle.root.specs.Words.{patternsAt, tableIn, Holding, Ready, Framed}
-use Rattle.root.specs.Moved.{nodes-most, framed-then}
-use Rattle.root.specs.Asked.{graph-long}
+use Rattle.table.specs.Words.{patternsAt, tableIn, Holding, Ready, Framed}
+use Rattle.table.specs.Moved.{nodes-most, framed-then}
+use Rattle.table.specs.Asked.{graph-long}
 use Rattle.root.specs.Given.{copied-word, read-word}
 use Rattle.resolve.specs.Stacks.{Sane, framesOf, Going, Running, Turning, turnOf, Advances}
 use Rattle.resolve.specs.Measure.{turnsIn, turns-of}

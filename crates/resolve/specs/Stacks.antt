@@ -22,13 +22,13 @@ use Rattle.lift.specs.Lifts.{framesIn}
 use Rattle.lift.specs.declared.walk.Lifted.{Lifted}
 use Rattle.graph.specs.declared.graph.Graph.{Graph as Counts}
 use Rattle.graph.specs.Cells.{rowsEnd, Shows}
-use Rattle.root.specs.declared.words.Table.{Table}
+use Rattle.table.specs.declared.words.Table.{Table}
 use Rattle.root.specs.declared.root.Resolved.{Resolved}
 use Rattle.root.specs.declared.root.Resolved.the-variants as read
 use Rattle.resolve.specs.declared.walk.Turn.{Turn}
 use Rattle.resolve.specs.declared.walk.Turn.the-variants as turns
-use Rattle.root.specs.Words.{patternsAt, tableIn, Grounded, Lies, Holding, Framed, Moves}
-use Rattle.root.specs.Asked.{Arguing}
+use Rattle.table.specs.Words.{patternsAt, tableIn, Grounded, Lies, Holding, Framed, Moves}
+use Rattle.table.specs.Asked.{Arguing}
 
 -- a forest whose nodes have nodes as arguments, without circles
 pub record Sane (h : Graph) : Type 0 where

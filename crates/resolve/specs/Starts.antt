@@ -23,11 +23,11 @@ use Rattle.base.specs.declared.id.Pattern.{Pattern}
 use Rattle.catalog.specs.declared.whole.Catalog.{Catalog}
 use Rattle.lift.specs.declared.walk.Lifted.{Lifted}
 use Rattle.graph.specs.declared.graph.Graph.{Graph as Counts}
-use Rattle.root.specs.declared.words.Table.{Table}
+use Rattle.table.specs.declared.words.Table.{Table}
 use Rattle.root.specs.declared.root.Resolved.the-variants as read
-use Rattle.root.specs.Words.{tableIn, Holding, Ready, Framed}
-use Rattle.root.specs.Moved.{framed-none, framed-then, framed-moves, holding-moves}
-use Rattle.root.specs.Asked.{Asking, graph-long}
+use Rattle.table.specs.Words.{tableIn, Holding, Ready, Framed}
+use Rattle.table.specs.Moved.{framed-none, framed-then, framed-moves, holding-moves}
+use Rattle.table.specs.Asked.{Asking, graph-long}
 use Rattle.resolve.specs.Stacks.{Going, Begins, Answers}
 use Rattle.resolve.specs.Runs.{saneOf, Walks, Shorts, Reads}
 

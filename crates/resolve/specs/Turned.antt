@@ -19,12 +19,12 @@ use Rattle.lift.specs.Memo.{frames-same}
 use Rattle.lift.specs.declared.walk.Lifted.{Lifted}
 use Rattle.graph.specs.declared.graph.Graph.{Graph as Counts}
 use Rattle.graph.specs.Cells.{rowsEnd}
-use Rattle.root.specs.declared.words.Table.{Table}
+use Rattle.table.specs.declared.words.Table.{Table}
 use Rattle.root.specs.declared.root.Resolved.the-variants as read
 use Rattle.resolve.specs.declared.walk.Turn.the-variants as turns
-use Rattle.root.specs.Words.{patternsAt, tableIn, Holding}
-use Rattle.root.specs.Moved.{framed-none, framed-moves}
-use Rattle.root.specs.Asked.{Asking, CountOf}
+use Rattle.table.specs.Words.{patternsAt, tableIn, Holding}
+use Rattle.table.specs.Moved.{framed-none, framed-moves}
+use Rattle.table.specs.Asked.{Asking, CountOf}
 use Rattle.root.specs.Roots.{Any, Opening, Notes}
 use Rattle.resolve.specs.Stacks.{Turning, Advances, Entering, Enters}
 use Rattle.resolve.specs.Turns.{room, goes, drops-on, some-args, next-room, taken-few, turned-in, opens, finishes}

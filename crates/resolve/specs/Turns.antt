@@ -26,10 +26,10 @@ use Rattle.lift.specs.Turns.{length-frames}
 use Rattle.lift.specs.declared.walk.Lifted.{Lifted}
 use Rattle.graph.specs.declared.graph.Graph.{Graph as Counts}
 use Rattle.graph.specs.Cells.{rowsEnd}
-use Rattle.root.specs.declared.words.Table.{Table}
-use Rattle.root.specs.Words.{patternsAt, tableIn, marksIn, wordOf, Says, Holding}
-use Rattle.root.specs.Moved.{nodes-most, holding-moves}
-use Rattle.root.specs.Asked.{CountOf, graph-long}
+use Rattle.table.specs.declared.words.Table.{Table}
+use Rattle.table.specs.Words.{patternsAt, tableIn, marksIn, wordOf, Says, Holding}
+use Rattle.table.specs.Moved.{nodes-most, holding-moves}
+use Rattle.table.specs.Asked.{CountOf, graph-long}
 use Rattle.root.specs.Roots.{Open}
 use Rattle.root.specs.Ways.{map-at}
 use Rattle.resolve.specs.Stacks.{Sane, framesOf, Running, turnOf, Enters}

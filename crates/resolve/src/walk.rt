@@ -1,25 +1,25 @@
 // Graph terms read back as patterns, arguments first: a walk by a stack that reads each root once.
 use base::id::Node;
 use base::id::Pattern;
-use base::zero::zero_words;
+use buffer::zero::zero_words;
 use catalog::whole::Catalog;
 use graph::graph::Graph;
 use lift::walk::Lifted;
 use root::root::Resolved;
 use root::root::read_root;
-use root::words::Table;
-use root::words::argument_root;
-use root::words::count;
-use root::words::put_word;
-use root::words::word_at;
 use store::nodes::Store;
+use table::words::Table;
+use table::words::argument_root;
+use table::words::count;
+use table::words::put_word;
+use table::words::word_at;
 ghost use mathlib.Core.Path.{_≡_};
 ghost use Prim.Native.Nat.{_+_, _<_, _≤_};
 ghost use lib.Dec.{eqb, ltb};
 ghost use lib.ListN.{length, getD};
 ghost use Rattle.definition.specs.Test.{_and_};
-ghost use Rattle.root.specs.Words.{patternsAt, tableEnd, tableIn, Ready};
-ghost use Rattle.root.specs.Asked.{Asking};
+ghost use Rattle.table.specs.Words.{patternsAt, tableEnd, tableIn, Ready};
+ghost use Rattle.table.specs.Asked.{Asking};
 ghost use Rattle.resolve.specs.Stacks.{Entering, Enters, Begins, Turning, Advances, Clears, Answers};
 
 // So many frames stand on the stack, the store as it is then, and so many variables are numbered; or there is no room for a node.

@@ -33,12 +33,12 @@ use Rattle.lift.specs.declared.walk.Lifted.{Lifted}
 use Rattle.graph.specs.declared.graph.Graph.{Graph as Counts}
 use Rattle.graph.specs.Cells.{rowsEnd, shows-rows}
 use Rattle.graph.specs.Nodes.{SortOf}
-use Rattle.root.specs.declared.words.Table.{Table}
-use Rattle.root.specs.Words.{valuesAt, patternsAt, numbersAt, tableEnd, tableIn, marksIn, wordOf, Says, Lies, Holding, Framed}
-use Rattle.root.specs.Kept.{lifts-on}
-use Rattle.root.specs.Moved.{taken-most, table-at, table-long, nodes-most, table-room, table-apart, lies-apart}
-use Rattle.root.specs.Asked.{graph-long}
-use Rattle.root.specs.Keys.{patternOf}
+use Rattle.table.specs.declared.words.Table.{Table}
+use Rattle.table.specs.Words.{valuesAt, patternsAt, numbersAt, tableEnd, tableIn, marksIn, wordOf, Says, Lies, Holding, Framed}
+use Rattle.table.specs.Kept.{lifts-on}
+use Rattle.table.specs.Moved.{taken-most, table-at, table-long, nodes-most, table-room, table-apart, lies-apart}
+use Rattle.table.specs.Asked.{graph-long}
+use Rattle.table.specs.Keys.{patternOf}
 use Rattle.root.specs.Roots.{Open, Named, Fixed, Applied, readsAs, Given}
 
 -- where neither of two holds the first does not

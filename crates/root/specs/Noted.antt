@@ -27,11 +27,11 @@ use Rattle.lift.specs.Lifts.{indexIn}
 use Rattle.lift.specs.declared.walk.Lifted.{Lifted}
 use Rattle.graph.specs.declared.graph.Graph.{Graph as Counts}
 use Rattle.graph.specs.Cells.{rowsEnd}
-use Rattle.root.specs.declared.words.Table.{Table}
+use Rattle.table.specs.declared.words.Table.{Table}
 use Rattle.root.specs.declared.root.Resolved.the-variants as read
-use Rattle.root.specs.Words.{valuesAt, patternsAt, numbersAt, tableIn, marksIn, wordOf, Holding}
-use Rattle.root.specs.Kept.{number-fits}
-use Rattle.root.specs.Moved.{table-set, table-long, framed-then}
+use Rattle.table.specs.Words.{valuesAt, patternsAt, numbersAt, tableIn, marksIn, wordOf, Holding}
+use Rattle.table.specs.Kept.{number-fits}
+use Rattle.table.specs.Moved.{table-set, table-long, framed-then}
 use Rattle.root.specs.Roots.{Open, Any, Opening, readsAs, Given, Gives, Notes}
 use Rattle.root.specs.Given.{unread-word, node-given, node-few, lies-set, framed-set}
 

@@ -20,10 +20,10 @@ use Rattle.catalog.specs.declared.whole.Catalog.{Catalog}
 use Rattle.lift.specs.declared.walk.Lifted.{Lifted}
 use Rattle.graph.specs.declared.graph.Graph.{Graph as Counts}
 use Rattle.graph.specs.Cells.{rowsEnd}
-use Rattle.root.specs.declared.words.Table.{Table}
+use Rattle.table.specs.declared.words.Table.{Table}
 use Rattle.root.specs.declared.root.Resolved.{Resolved}
 use Rattle.root.specs.declared.root.Resolved.the-variants.{Read, Short}
-use Rattle.root.specs.Words.{valuesAt, numbersAt, tableIn, Lies, Holding, Framed}
+use Rattle.table.specs.Words.{valuesAt, numbersAt, tableIn, Lies, Holding, Framed}
 
 -- a root that was not read back while its arguments' roots were
 pub record Open (h : Graph) (s : Resolving) (x : ℕ) : Type 0 where

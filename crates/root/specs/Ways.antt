@@ -29,14 +29,14 @@ use Rattle.lift.specs.declared.walk.Lifted.{Lifted}
 use Rattle.graph.specs.declared.graph.Graph.{Graph as Counts}
 use Rattle.graph.specs.Cells.{Shows}
 use Rattle.graph.specs.Nodes.{SortOf}
-use Rattle.root.specs.declared.words.Table.{Table}
+use Rattle.table.specs.declared.words.Table.{Table}
 use Rattle.root.specs.declared.root.Resolved.{Resolved}
 use Rattle.root.specs.declared.root.Resolved.the-variants as read
-use Rattle.root.specs.Words.{valuesAt, patternsAt, numbersAt, tableEnd, tableIn, Lies, Holding, Framed}
-use Rattle.root.specs.Kept.{Indexed, Interns}
-use Rattle.root.specs.Moved.{table-set, table-long, framed-moves, holding-moves, table-apart, lies-apart, framed-apart, framed-then}
-use Rattle.root.specs.Asked.{Asking, finds-moves, finds-word, graph-long}
-use Rattle.root.specs.Keys.{Ripe, Keyed}
+use Rattle.table.specs.Words.{valuesAt, patternsAt, numbersAt, tableEnd, tableIn, Lies, Holding, Framed}
+use Rattle.table.specs.Kept.{Indexed, Interns}
+use Rattle.table.specs.Moved.{table-set, table-long, framed-moves, holding-moves, table-apart, lies-apart, framed-apart, framed-then}
+use Rattle.table.specs.Asked.{Asking, finds-moves, finds-word, graph-long}
+use Rattle.table.specs.Keys.{Ripe, Keyed}
 use Rattle.root.specs.Roots.{Open, Named, Fixed, Applied, Opening, Gives}
 use Rattle.root.specs.Given.{read-word, node-given, node-few, number-room, named-is, value-said, value-below, valued-is, applied-is, given-same, lies-set, framed-set}
 

@@ -1,3 +1,2 @@
 // One root of a graph read back as a pattern, behind its arguments.
 pub mod root;
-pub mod words;

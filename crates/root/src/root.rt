@@ -1,11 +1,4 @@
 // One root read back whose arguments' roots were: a variable by its number or its ground value, an application over its arguments.
-use crate::words::Table;
-use crate::words::intern_key;
-use crate::words::key_of;
-use crate::words::numbers;
-use crate::words::put_word;
-use crate::words::said;
-use crate::words::word_at;
 use base::id::Ground;
 use base::id::Node;
 use base::id::Pattern;
@@ -15,6 +8,13 @@ use lift::walk::Lifted;
 use lift::walk::lift;
 use store::nodes::Interned;
 use store::nodes::Store;
+use table::words::Table;
+use table::words::intern_key;
+use table::words::key_of;
+use table::words::numbers;
+use table::words::put_word;
+use table::words::said;
+use table::words::word_at;
 ghost use Rattle.root.specs.Roots.{Opening, Variable, Any, Gives, Naming, Names, Valuing, Values, Applying, Applies, Notes};
 
 // What was read: the pattern, the store with it, and how many variables are numbered; or that the words have no room.

@@ -14,8 +14,8 @@ use Rattle.base.specs.Part.{part-same}
 use Rattle.base.specs.Outside.{part-behind}
 use Rattle.base.specs.Upto.{Upto}
 use Rattle.store.specs.Stored.{Stored, nodes}
-use Rattle.store.specs.Recall.{Remembers}
-use Rattle.store.specs.declared.memo.Memo.{Memo}
+use Rattle.memo.specs.Recall.{Remembers}
+use Rattle.memo.specs.declared.memo.Memo.{Memo}
 use Rattle.store.specs.declared.nodes.Store.{Store}
 use Rattle.catalog.specs.Whole.{recordsOf}
 use Rattle.catalog.specs.Same.{Same, same-records, endOf as tablesEnd}
@@ -25,11 +25,11 @@ use Rattle.pack.specs.Held.{held-on, reads-back}
 use Rattle.lift.specs.Lifts.{indexAt, marks, indexIn, Lifts}
 use Rattle.lift.specs.Memo.{lifted-same}
 use Rattle.lift.specs.declared.walk.Lifted.{Lifted}
-use Rattle.copy.specs.Held.{Patterns}
+use Rattle.fresh.specs.Held.{Patterns}
 use Rattle.kept.specs.Variables.{VariablesBelow}
-use Rattle.keys.specs.Words.{countIn}
-use Rattle.keys.specs.declared.classes.Keying.{Keying}
-use Rattle.keys.specs.declared.classes.Counts.{Counts}
+use Rattle.key.specs.Words.{countIn}
+use Rattle.key.specs.declared.classes.Keying.{Keying}
+use Rattle.key.specs.declared.classes.Counts.{Counts}
 use Rattle.premise.specs.Layout.{memoIn}
 use Rattle.premise.specs.declared.layout.Layout.{Layout}
 use Rattle.rows.specs.Standing.{liftedOf, Standing, standing-keyed, standing-few}

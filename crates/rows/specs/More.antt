@@ -12,8 +12,8 @@ use Rattle.definition.specs.Classes.{Class, noClass, Built}
 use Rattle.theory.specs.Patterns.Interned.{Grows, grows-long}
 use Rattle.base.specs.Upto.{Upto}
 use Rattle.store.specs.Stored.{nodes}
-use Rattle.store.specs.Recall.{Remembers}
-use Rattle.store.specs.declared.memo.Memo.{Memo}
+use Rattle.memo.specs.Recall.{Remembers}
+use Rattle.memo.specs.declared.memo.Memo.{Memo}
 use Rattle.store.specs.declared.nodes.Store.{Store}
 use Rattle.catalog.specs.Whole.{recordsOf}
 use Rattle.catalog.specs.Same.{Same}
@@ -21,12 +21,12 @@ use Rattle.catalog.specs.declared.whole.Catalog.{Catalog}
 use Rattle.pack.specs.Reads.{length-steps}
 use Rattle.pack.specs.Held.{reads-on}
 use Rattle.lift.specs.Lifts.{Lifts}
-use Rattle.copy.specs.Held.{Patterns}
+use Rattle.fresh.specs.Held.{Patterns}
 use Rattle.kept.specs.Variables.{VariablesBelow}
 use Rattle.needed.specs.Upto.{upto-same}
 use Rattle.keys.specs.Keyed.{keyed-work-on}
-use Rattle.keys.specs.declared.classes.Keying.{Keying}
-use Rattle.keys.specs.declared.classes.Counts.{Counts}
+use Rattle.key.specs.declared.classes.Keying.{Keying}
+use Rattle.key.specs.declared.classes.Counts.{Counts}
 use Rattle.premise.specs.Layout.{memoIn, laid-on, laid-words}
 use Rattle.premise.specs.declared.layout.Layout.{Layout}
 use Rattle.rows.specs.Words.{widthOf}

@@ -9,8 +9,8 @@ use Rattle.definition.specs.Keys.{keyed as keysOf}
 use Rattle.definition.specs.Classes.{Class, noClass, Built}
 use Rattle.base.specs.Upto.{Upto}
 use Rattle.store.specs.Stored.{nodes}
-use Rattle.store.specs.Recall.{Remembers}
-use Rattle.store.specs.declared.memo.Memo.{Memo}
+use Rattle.memo.specs.Recall.{Remembers}
+use Rattle.memo.specs.declared.memo.Memo.{Memo}
 use Rattle.store.specs.declared.nodes.Store.{Store}
 use Rattle.catalog.specs.Whole.{recordsOf}
 use Rattle.catalog.specs.Same.{Same, endOf as tablesEnd}
@@ -19,16 +19,16 @@ use Rattle.pack.specs.Reads.{Reads, length-steps}
 use Rattle.pack.specs.Held.{Proper, Held, reads-on}
 use Rattle.lift.specs.Lifts.{Lifts}
 use Rattle.lift.specs.declared.walk.Lifted.{Lifted}
-use Rattle.copy.specs.Held.{Patterns}
+use Rattle.fresh.specs.Held.{Patterns}
 use Rattle.kept.specs.Variables.{VariablesBelow}
 use Rattle.needed.specs.Upto.{upto-same}
-use Rattle.keys.specs.Words.{endOf}
+use Rattle.key.specs.Words.{endOf}
 use Rattle.keys.specs.Keyed.{KeyedIn, KeyedWork, keyed-work-on}
-use Rattle.keys.specs.declared.classes.Keying.{Keying}
-use Rattle.keys.specs.declared.classes.Counts.{Counts}
+use Rattle.key.specs.declared.classes.Keying.{Keying}
+use Rattle.key.specs.declared.classes.Counts.{Counts}
 use Rattle.premise.specs.Layout.{memoIn, Laid, laid-on, laid-cells}
 use Rattle.premise.specs.declared.layout.Layout.{Layout}
-use Rattle.root.specs.Kept.{lifts-on}
+use Rattle.table.specs.Kept.{lifts-on}
 use Rattle.rows.specs.Rows.{RowsIn, rows-on}
 
 -- where lifting has its words

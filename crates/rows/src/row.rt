@@ -1,4 +1,5 @@
 // A class's row: its place noted and its first words written.
+use base::id::Pattern;
 use premise::layout::Layout;
 ghost use Rattle.rows.specs.Row.{Beginning, Begun};
 
@@ -10,16 +11,16 @@ pub fn begin_row(
     l: Layout,
     fill: usize,
     i: usize,
-    conclusion: u32,
+    conclusion: Pattern,
     count: usize,
     n: usize,
 )
     requires { ⌜ Beginning (now work) (now class) l fill i count n ⌝ }
-    ensures { λ _. ⌜ Begun (now (work .entry)) (now (class .entry)) (now (work .exit)) (now (class .exit)) l fill i conclusion count n ⌝ }
+    ensures { λ _. ⌜ Begun (now (work .entry)) (now (class .entry)) (now (work .exit)) (now (class .exit)) l fill i (conclusion .0) count n ⌝ }
 {
     let at = l.rows + i;
     work[at] = fill as u32;
-    class[fill] = conclusion;
+    class[fill] = conclusion.0;
     class[fill + 1] = count as u32;
     class[fill + 2] = n as u32;
 }

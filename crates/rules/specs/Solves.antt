@@ -19,8 +19,8 @@ use Rattle.theory.specs.Copies.Variables.{length-of}
 use Rattle.base.specs.Part.{part}
 use Rattle.base.specs.Outside.{Outside, outside-then, outside-wider, part-ahead}
 use Rattle.base.specs.Upto.{upto-outside}
-use Rattle.store.specs.Recall.{Remembers}
-use Rattle.store.specs.declared.memo.Memo.{Memo}
+use Rattle.memo.specs.Recall.{Remembers}
+use Rattle.memo.specs.declared.memo.Memo.{Memo}
 use Rattle.store.specs.declared.nodes.Store.{Store}
 use Rattle.catalog.specs.declared.whole.Catalog.{Catalog}
 use Rattle.graph.specs.declared.graph.Graph.{Graph as Counts}
@@ -29,8 +29,8 @@ use Rattle.graph.specs.Pushes.{cells-shown}
 use Rattle.chains.specs.Head.{premises-spelt}
 use Rattle.instantiate.specs.Variables.{variablesOf, Opening, Opens}
 use Rattle.instantiate.specs.declared.variables.Opened.the-variants as opened
-use Rattle.keys.specs.declared.classes.Keying.{Keying}
-use Rattle.keys.specs.declared.classes.Counts.{Counts as KeyCounts}
+use Rattle.key.specs.declared.classes.Keying.{Keying}
+use Rattle.key.specs.declared.classes.Counts.{Counts as KeyCounts}
 use Rattle.kept.specs.FewArgs.{few-variables}
 use Rattle.premise.specs.Layout.{placeOf, memoIn, tableIn}
 use Rattle.premise.specs.declared.layout.Layout.{Layout}

@@ -21,8 +21,8 @@ use Rattle.theory.specs.Keys.Needed.{first-judgment}
 use Rattle.base.specs.Part.{part, put, part-at, length-part, part-put, length-put, put-before, put-at, put-behind}
 use Rattle.base.specs.Outside.{Outside, outside-then, outside-wider, part-ahead, part-behind}
 use Rattle.base.specs.Upto.{upto-outside}
-use Rattle.store.specs.Recall.{Remembers}
-use Rattle.store.specs.declared.memo.Memo.{Memo}
+use Rattle.memo.specs.Recall.{Remembers}
+use Rattle.memo.specs.declared.memo.Memo.{Memo}
 use Rattle.store.specs.declared.nodes.Store.{Store}
 use Rattle.catalog.specs.Whole.{recordsOf}
 use Rattle.catalog.specs.declared.whole.Catalog.{Catalog}
@@ -32,11 +32,11 @@ use Rattle.graph.specs.Cells.{nodes-few, Shows, Unchanged}
 use Rattle.graph.specs.Inner.{HoldsInner}
 use Rattle.circle.specs.Circles.{Tells}
 use Rattle.circle.specs.Words.{coloursEnd}
-use Rattle.fix.specs.Words.{Stands, Framed}
-use Rattle.fix.specs.declared.words.Valued.{Valued}
+use Rattle.valuation.specs.Words.{Stands, Framed}
+use Rattle.valuation.specs.declared.words.Valued.{Valued}
 use Rattle.fix.specs.declared.walk.Fixed.the-variants.{Done, Differs as Unlike}
-use Rattle.keys.specs.declared.classes.Keying.{Keying}
-use Rattle.keys.specs.declared.classes.Counts.{Counts as KeyCounts}
+use Rattle.key.specs.declared.classes.Keying.{Keying}
+use Rattle.key.specs.declared.classes.Counts.{Counts as KeyCounts}
 use Rattle.premise.specs.Layout.{tableIn, copiesAt}
 use Rattle.premise.specs.Joins.{copiesIn}
 use Rattle.premise.specs.declared.layout.Layout.{Layout}

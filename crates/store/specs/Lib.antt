@@ -1,5 +1,4 @@
--- What the store and the memo hold, and their laws.
+-- What the store holds, and its laws.
 pub mod Words
 pub mod Stored
 pub mod Table
-pub mod Recall

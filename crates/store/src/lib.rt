@@ -1,3 +1,2 @@
-// The interned pattern store and the memo, over lent words.
-pub mod memo;
+// The interned pattern store over lent words.
 pub mod nodes;

@@ -4,7 +4,7 @@ use base::copy::copy_words;
 use base::hash::hash_words;
 use base::id::Pattern;
 use base::same::same_words;
-use base::zero::zero_words;
+use buffer::zero::zero_words;
 ghost use mathlib.Core.Path.{_≡_};
 ghost use mathlib.Core.List.{[]};
 ghost use Prim.Native.Nat.{_+_, _<_, min};

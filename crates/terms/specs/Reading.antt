@@ -15,7 +15,7 @@ use Rattle.definition.specs.Pack.{Pack, prop, symbolOf}
 use Rattle.definition.specs.Theory.{words, variable, fits, wanted}
 use Rattle.definition.specs.Laws.Decide.{and-no-left}
 use Rattle.definition.specs.Laws.Put.{length-words}
-use Rattle.catalog.specs.Place.{Place}
+use Rattle.region.specs.Place.{Place}
 use Rattle.pack.specs.Body.{bodyOf}
 use Rattle.pack.specs.Laws.{word-from}
 use Rattle.pack.specs.Reads.{Reads, length-symbols}

@@ -9,7 +9,7 @@ use Rattle.definition.specs.Pack.{Pack, prop}
 use Rattle.definition.specs.Frame.{Checked, good, bad, over}
 use Rattle.definition.specs.Theory.{Unread, words}
 use Rattle.definition.specs.Laws.Prefix.{readAll}
-use Rattle.catalog.specs.Place.{Place}
+use Rattle.region.specs.Place.{Place}
 use Rattle.pack.specs.Reads.{Reads}
 use Rattle.terms.specs.Terms.{wantedBy, unreadAt}
 use Rattle.terms.specs.Turns.{Reached, runFrom, Onward, Turned}

@@ -13,7 +13,7 @@ use Rattle.definition.specs.Pack.{Pack, symbolOf}
 use Rattle.definition.specs.Frame.{Checked, good, bad, over}
 use Rattle.definition.specs.Theory.{Unread, words, variable, fits, wanted}
 use Rattle.definition.specs.Laws.Prefix.{readAll, read-done}
-use Rattle.catalog.specs.Place.{Place}
+use Rattle.region.specs.Place.{Place}
 use Rattle.pack.specs.Reads.{Reads, length-symbols}
 use Rattle.frame.specs.Name.{denied, not-denied}
 use Rattle.terms.specs.Terms.{wantedBy, unreadAt, word-none, word-many, word-unfit, word-fits, fits-symbol}

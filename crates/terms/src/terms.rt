@@ -1,6 +1,6 @@
 // A rule's terms in prefix order, read with a stack of frames: a symbol whose arguments are still to come, and the next of them.
 use base::id::Ground;
-use base::little::u32_at;
+use buffer::little::u32_at;
 use catalog::whole::Catalog;
 use frame::row::word;
 use pack::symbol::symbol_arity;

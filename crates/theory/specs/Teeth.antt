@@ -1,22 +1,27 @@
--- Demand 3 has teeth: it is false of the words that four wrong ports would write, each of a small pack that the step check accepts.
-use mathlib.Core.Path.{_≡_, refl, sym, _∙_}
+-- Demand 3 has teeth: it is false of the words that four wrong ports would write, each of a small pack that the step check accepts, and of a
+-- port that always refuses.
+use mathlib.Core.Path.{_≡_, refl, sym, ap, _∙_}
 use mathlib.Core.Bool.{true, false}
 use mathlib.Core.List.{List, [], _∷_}
 use Prim.Native.Nat.{ℕ, zero, suc, _<_}
 use native.Mathlib.Omega.{arith}
 use lib.ListN.{length, getD}
 use Rattle.definition.specs.Test.{never, any}
-use Rattle.definition.specs.Pack.{prop, Symbol, var, app, nil, cons, Rule, noNode, Pack, symbolOf, ruleOf, stepOf}
+use Rattle.definition.specs.Pack.{prop, Symbol, var, app, nil, cons, Rule, noNode, Pack, empty, symbolOf, ruleOf, stepOf}
 use Rattle.definition.specs.Tree.{Tree, tree, no-trees, tree-then, treeOf, turn}
 use Rattle.definition.specs.Frame.{fine, _>>=_, right, within}
 use Rattle.definition.specs.Parse.{parse}
 use Rattle.definition.specs.Encode.{encode}
 use Rattle.definition.specs.Verdict.{judgments, Passes, Accepted}
+use Rattle.definition.specs.Answer.{answer, lengths}
 use Rattle.definition.specs.Store.{variableHead, isVariable, termOf}
 use Rattle.definition.specs.Analysis.{parts}
 use Rattle.definition.specs.Keys.{firstOf, predicateOf, isCut, needed}
+use Rattle.definition.specs.Run as run
+use Rattle.definition.specs.Calls.{classRun, Left}
+use Rattle.definition.specs.declared.Answer.{Answer}
 use Rattle.theory.specs.Derive.{SortedTree, In, InstanceOf, Derivation, leaf, by, none, more}
-use Rattle.theory.specs.Principal.{patternsIn, conclusionIn, Concluded, Principal}
+use Rattle.theory.specs.Principal.{patternsIn, conclusionIn, Concluded, Principal, DemandThree}
 
 -- a symbol by its output, its inputs and its name's one byte
 abbrev pub symbol : ℕ → List ℕ → ℕ → Symbol
@@ -246,3 +251,8 @@ shared-copy = (
 pub all-read : (parse (encode two) ≡ fine two) × (parse (encode fixed) ≡ fine fixed) × (parse (encode free) ≡ fine free) × (parse (encode paired) ≡ fine paired)
 unfolding parse encode _>>=_ right within
 all-read = (refl, refl, refl, refl)
+
+-- "A call that always refuses": of the pack of no bytes, with the least that may be lent
+pub always-refused : (left : Left) → (left .returned .code ≡ 0 → ⊥) → DemandThree [] 0 0 0 1024 left → ⊥
+unfolding parse lengths classRun answer run._>>=_ run.hasRoom
+always-refused left refuses H = refuses (ap (λ (a : Answer). a .code) (H empty refl (record { steps = λ i h. absurd (omega arith); goals = λ i h. absurd (omega arith) }) refl refl .0))

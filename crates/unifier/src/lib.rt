@@ -1,7 +1,7 @@
 // Unifies two nodes of a list, for the host's test and benchmark of the graph.
 use base::id::Node;
 use base::id::Pattern;
-use base::zero::zero_words;
+use buffer::zero::zero_words;
 use circle::walk::circular;
 use graph::graph::Graph;
 use graph::graph::Pushed;

@@ -1,4 +1,2 @@
--- Unification by a worklist: the pairs, a turn, and all turns.
-pub mod Pairs
-pub mod Meets
+-- Unification by a worklist: all turns.
 pub mod Unifies

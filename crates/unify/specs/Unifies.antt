@@ -19,9 +19,9 @@ use Rattle.theory.specs.Unification.Unify.{take-clashed, take-on, open-most}
 use Rattle.theory.specs.Unification.Join.{same-refl, join-joined, bind-joined}
 use Rattle.theory.specs.Unification.Pairs.{args-length}
 use Rattle.graph.specs.declared.graph.Graph.{Graph as Counts}
-use Rattle.unify.specs.declared.pairs.Pairs.{Pairs}
-use Rattle.unify.specs.declared.meet.Met.{Met}
-use Rattle.unify.specs.declared.meet.Met.the-variants.{On, Clash as Unlike}
+use Rattle.meet.specs.declared.pairs.Pairs.{Pairs}
+use Rattle.meet.specs.declared.meet.Met.{Met}
+use Rattle.meet.specs.declared.meet.Met.the-variants.{On, Clash as Unlike}
 use Rattle.unify.specs.declared.unify.Outcome.{Outcome}
 use Rattle.unify.specs.declared.unify.Outcome.the-variants.{Joined, Clash}
 use Rattle.graph.specs.Cells.{startIn, linkWord, linkIn, graphIn, length-graphIn, rowsEnd, Shows, SameRows, rows-then, rows-set, shows-rows, Unchanged, unchanged-same, unchanged-then, unchanged-later, unchanged-set}
@@ -30,8 +30,8 @@ use Rattle.graph.specs.Pushes.{cells-shown}
 use Rattle.graph.specs.Nodes.{arity-of}
 use Rattle.graph.specs.Stack.{pairsEnd, leftWord, rightWord, pairsIn, length-pairsIn, pairs-same}
 use Rattle.graph.specs.Inner.{Inner, HoldsInner, many-nodes}
-use Rattle.unify.specs.Pairs.{Topmost, PairsRoom}
-use Rattle.unify.specs.Meets.{Rooted, Meets, meet-same, meet-left, meet-right, meet-rigid, meet-unlike, meet-alike}
+use Rattle.meet.specs.Pairs.{Topmost, PairsRoom}
+use Rattle.meet.specs.Meets.{Rooted, Meets, meet-same, meet-left, meet-right, meet-rigid, meet-unlike, meet-alike}
 
 -- pairs of nodes
 abbrev pub Within : ℕ → List Pair → Type 0

@@ -1,9 +1,9 @@
 // Unification by a worklist of pairs.
-use crate::meet::Met;
-use crate::meet::meet;
-use crate::pairs::Pairs;
 use base::id::Node;
 use graph::graph::Graph;
+use meet::meet::Met;
+use meet::meet::meet;
+use meet::pairs::Pairs;
 ghost use mathlib.Core.Path.{_≡_};
 ghost use Prim.Native.Nat.{_<_, _≤_};
 ghost use lib.ListN.{length};

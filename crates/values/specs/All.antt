@@ -22,9 +22,9 @@ use Rattle.theory.specs.Walks.Levels.{Inner}
 use Rattle.graph.specs.declared.graph.Graph.{Graph as Counts}
 use Rattle.graph.specs.Cells.{Shows}
 use Rattle.graph.specs.Inner.{many-nodes}
-use Rattle.fix.specs.Words.{tableIn, Stands, Placed, Framed, framed-none, framed-then, framed-same, placed-on}
-use Rattle.fix.specs.Stores.{Clears}
-use Rattle.fix.specs.declared.words.Valued.{Valued}
+use Rattle.valuation.specs.Words.{tableIn, Stands, Placed, Framed, framed-none, framed-then, framed-same, placed-on}
+use Rattle.valuation.specs.Stores.{Clears}
+use Rattle.valuation.specs.declared.words.Valued.{Valued}
 use Rattle.fix.specs.declared.walk.Fixed.{Fixed}
 use Rattle.fix.specs.declared.walk.Fixed.the-variants.{Done, Differs}
 use Rattle.kept.specs.Values.{valued-nil, valued-snoc, valued-none}

@@ -17,9 +17,9 @@ use Rattle.pack.specs.Reads.{Reads, length-steps, length-nodes}
 use Rattle.pack.specs.Held.{Proper, Held, OfHeld}
 use Rattle.pack.specs.Says.{Readable, OfPack}
 use Rattle.graph.specs.declared.graph.Graph.{Graph as Counts}
-use Rattle.fix.specs.Words.{tableIn, Stands, Framed, Values, Says}
+use Rattle.valuation.specs.Words.{tableIn, Stands, Framed, Values, Says}
 use Rattle.fix.specs.Fixes.{Fixes}
-use Rattle.fix.specs.declared.words.Valued.{Valued}
+use Rattle.valuation.specs.declared.words.Valued.{Valued}
 use Rattle.fix.specs.declared.walk.Fixed.{Fixed}
 use Rattle.fix.specs.declared.walk.Fixed.the-variants.{Done, Differs}
 

@@ -4,11 +4,11 @@ use base::id::Node;
 use catalog::whole::Catalog;
 use fix::walk::Fixed;
 use fix::walk::fix;
-use fix::words::Valued;
-use fix::words::clear;
 use graph::graph::Graph;
 use pack::step::step_judgment;
 use pack::step::step_ref;
+use valuation::words::Valued;
+use valuation::words::clear;
 ghost use Rattle.values.specs.One.{Asking, Gives};
 ghost use Rattle.values.specs.All.{Begun, GivesFrom, Starting, GivesAll};
 

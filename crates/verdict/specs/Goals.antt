@@ -10,10 +10,10 @@ use Rattle.definition.specs.Verdict.{met}
 use Rattle.definition.specs.Laws.Agreement.{met-sound, met-complete}
 use Rattle.catalog.specs.Whole.{recordsOf}
 use Rattle.catalog.specs.declared.whole.Catalog.{Catalog}
-use Rattle.catalog.specs.declared.region.Sought.the-variants.{At, Nowhere}
+use Rattle.region.specs.declared.region.Sought.the-variants.{At, Nowhere}
 use Rattle.pack.specs.Reads.{length-goals}
 use Rattle.pack.specs.Held.{Held, OfHeld}
-use Rattle.pack.specs.Goals.{goalOf, StepOf}
+use Rattle.named.specs.Goals.{goalOf, StepOf}
 
 module _ (bytes work : List ℕ) (c : Catalog) where
   -- each goal is recorded

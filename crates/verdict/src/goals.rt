@@ -1,8 +1,8 @@
 // The goals' tests.
 use crate::failing::Failing;
-use catalog::region::Sought;
 use catalog::whole::Catalog;
-use pack::goal::goal_step;
+use named::goal::goal_step;
+use region::region::Sought;
 ghost use mathlib.Core.Path.{_≡_};
 ghost use Prim.Native.Nat.{_<_};
 ghost use lib.ListN.{length, getD};

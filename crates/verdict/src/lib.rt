@@ -1,8 +1,5 @@
 // The verdict on the steps and the goals of a pack that was read.
 pub mod failing;
 pub mod goals;
-pub mod matching;
-pub mod pending;
 pub mod steps;
-pub mod values;
 pub mod verdict;

@@ -1,8 +1,8 @@
 // The steps' tests.
 use crate::failing::Failing;
-use crate::matching::rule_matches;
-use crate::pending::push_judgments;
 use catalog::whole::Catalog;
+use matching::matching::rule_matches;
+use matching::pending::push_judgments;
 use pack::step::step_rule;
 ghost use mathlib.Core.Path.{_≡_};
 ghost use Prim.Native.Nat.{_<_};

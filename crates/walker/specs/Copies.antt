@@ -8,7 +8,7 @@ use mathlib.Core.Bool.{Bool}
 use Rattle.definition.specs.Pack.{Node, Pack}
 use Rattle.definition.specs.Graph.{Graph, Grown, cells}
 use Rattle.definition.specs.Analysis.{copied, Copy, copy}
-use Rattle.copy.specs.Held.{marksIn}
+use Rattle.fresh.specs.Held.{marksIn}
 use Rattle.readback.specs.Came.{Came, done, refused, Left, leaves, lentTo, opened, readBack}
 use Rattle.readback.specs.Listed.{Listed, whole, broken, full, listed}
 

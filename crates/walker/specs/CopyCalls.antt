@@ -22,24 +22,25 @@ use Rattle.catalog.specs.declared.whole.Catalog.{Catalog}
 use Rattle.pack.specs.Reads.{Reads}
 use Rattle.pack.specs.Held.{Proper, Held, reads-on}
 use Rattle.reader.specs.Parsed.{tablesOf, Represents}
+use Rattle.reader.specs.Said.{reads-there, parsed-proper}
 use Rattle.lift.specs.Lifts.{Lifts, indexIn}
 use Rattle.lift.specs.Nodes.{laid-same}
 use Rattle.lift.specs.declared.walk.Lifted.{Lifted}
 use Rattle.graph.specs.declared.graph.Graph.{Graph as Counts}
 use Rattle.graph.specs.Pushes.{cells-shown}
 use Rattle.graph.specs.Inner.{many-nodes}
-use Rattle.copy.specs.declared.walk.Copying.{Copying}
-use Rattle.copy.specs.Held.{marksIn, Patterns}
-use Rattle.root.specs.declared.words.Table.{Table}
-use Rattle.root.specs.Words.{tableEnd, tableIn}
-use Rattle.root.specs.Kept.{lifts-on}
+use Rattle.fresh.specs.declared.node.Copying.{Copying}
+use Rattle.fresh.specs.Held.{marksIn, Patterns}
+use Rattle.table.specs.declared.words.Table.{Table}
+use Rattle.table.specs.Words.{tableEnd, tableIn}
+use Rattle.table.specs.Kept.{lifts-on}
 use Rattle.readback.specs.declared.answer.Walk.{Walk}
 use Rattle.readback.specs.declared.answer.Walk.the-variants.{Done, Refused}
 use Rattle.walker.specs.declared.copies.Times.the-variants.{Made, Short}
 use Rattle.readback.specs.declared.list.Listed.the-variants.{Whole, Broken as NoList, Full as NoRoom}
 use Rattle.readback.specs.Came.{Came, done, refused, readBack}
 use Rattle.readback.specs.Walks.{Walks}
-use Rattle.readback.specs.Places.{Opened, proper, held-there, Lays, lays-low, Sized, sized, Stores}
+use Rattle.readback.specs.Places.{Opened, held-there, Lays, lays-low, Sized, sized, Stores}
 use Rattle.readback.specs.Back.{Lying, Standing, Backs}
 use Rattle.readback.specs.Listed.{Listed, whole, broken, full, listed}
 use Rattle.readback.specs.Lists.{Lists}
@@ -298,5 +299,5 @@ pack-marks bytes from work words′ flex patterns room p copies read h P e R = (
 pub pack-copied : (bytes from work words′ flex : List ℕ) (patterns room p copies read : ℕ) (c : Catalog) (w : Walk) → length flex ≤ patterns → c ≡ tablesOf (length bytes) → FromList bytes from work words′ flex patterns room c p copies read w → FromPack bytes from work words′ flex patterns room p copies read w
 unfolding packCopied
 pack-copied bytes from work words′ flex patterns room p copies read c w h e K P f R =
-    let W = K P (subst (λ (x : Catalog). Reads bytes (recordsOf work x) P) (sym e) (R .reads)) (proper bytes P f) in
+    let W = K P (reads-there bytes work c e P R) (parsed-proper bytes P f) in
     (W .0, W .1 ∙ sym (rw (le-ltb _ _ h, packCopied)))

@@ -29,7 +29,7 @@ use Rattle.theory.specs.Walks.Memo.{has-value}
 use Rattle.theory.specs.Walks.Levels.{Inner}
 use Rattle.theory.specs.Walks.CopyWalk.{noCopy, isCopied, copyAt, copy-made, copy-others, copy-known, copy-walk}
 use Rattle.graph.specs.Cells.{cells-more}
-use Rattle.copy.specs.Held.{Patterns}
+use Rattle.fresh.specs.Held.{Patterns}
 
 -- nothing is joined, each node rests on few earlier ones
 abbrev pub Plain : Graph → Type 0

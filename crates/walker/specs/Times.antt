@@ -13,14 +13,14 @@ use Rattle.definition.specs.Analysis.{copied, Copy, copy}
 use Rattle.base.specs.Part.{part, put, part-same, length-part, length-put, part-put, put-before, put-behind}
 use Rattle.base.specs.declared.id.Node.{Node as Id}
 use Rattle.store.specs.Stored.{Stored, nodes}
-use Rattle.store.specs.Recall.{Remembers}
+use Rattle.memo.specs.Recall.{Remembers}
 use Rattle.store.specs.declared.nodes.Store.{Store}
-use Rattle.store.specs.declared.memo.Memo.{Memo}
+use Rattle.memo.specs.declared.memo.Memo.{Memo}
 use Rattle.graph.specs.declared.graph.Graph.{Graph as Counts}
 use Rattle.graph.specs.Cells.{rowsEnd, Shows}
-use Rattle.copy.specs.declared.walk.Copying.{Copying}
-use Rattle.copy.specs.declared.walk.Copied.the-variants as answers
-use Rattle.copy.specs.Held.{indexIn, tableIn, graphIn, marksIn, Patterns, Laid, Given, Copies}
+use Rattle.fresh.specs.declared.node.Copying.{Copying}
+use Rattle.fresh.specs.declared.node.Copied.the-variants as answers
+use Rattle.fresh.specs.Held.{indexIn, tableIn, graphIn, marksIn, Patterns, Laid, Given, Copies}
 use Rattle.walker.specs.declared.copies.Times.{Times}
 use Rattle.walker.specs.declared.copies.Times.the-variants.{Made, Short}
 use Rattle.walker.specs.Copies.{copiedTimes}

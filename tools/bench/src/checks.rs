@@ -1,9 +1,9 @@
 //! Packs through the library's step check: the recorded ones, whole and changed, and
 //! written ones, every answer beside certpack's or document 01's.
+use crate::numbers::Numbers;
 use crate::read::{Answer, GOOD, check as library};
 use crate::trial::Trial;
-use crate::wrong::{self, Counts};
-use crate::{edits, limits, reads, verdicts};
+use crate::{edits, limits, reads, verdicts, wrong};
 use certpack::vectors::{self, Case};
 use certpack::{pack, verdict::verdict};
 
@@ -16,9 +16,30 @@ const LEAST_GOALS: usize = 100;
 /// tests do so to all.
 const DAMAGED: usize = 512;
 
+/// How many changed packs there were, and how many got each answer.
+#[derive(Default)]
+struct Counts {
+    packs: usize,
+    step: usize,
+    goal: usize,
+    form: usize,
+}
+
+impl Counts {
+    fn add(&mut self, answer: Answer) {
+        self.packs += 1;
+        match answer.code {
+            1 => self.form += 1,
+            3 => self.step += 1,
+            4 => self.goal += 1,
+            _ => {}
+        }
+    }
+}
+
 pub fn check(folder: &str) -> Result<String, String> {
     let mut trial = Trial::new(library, certpack);
-    let mut counts = Counts::default();
+    let (mut counts, mut drawn) = (Counts::default(), Numbers::default());
     let (mut packs, mut refused, mut damaged) = (0, 0, 0);
     for path in vectors::files(folder)? {
         for case in vectors::read(&path)? {
@@ -27,7 +48,8 @@ pub fn check(folder: &str) -> Result<String, String> {
             trial.whole(&case.pack, who, wanted).map_err(at)?;
             packs += 1;
             refused += usize::from(wanted != GOOD);
-            wrong::check(&mut trial, &case.pack, &mut counts).map_err(at)?;
+            let one = |pack: &[u8]| trial.agrees(pack).map(|answer| counts.add(answer));
+            wrong::check(&mut drawn, &case.pack, one).map_err(at)?;
             if case.pack.len() <= DAMAGED {
                 damaged += reads::cut(&mut trial, &case.pack).map_err(at)?;
                 damaged += edits::check(&mut trial, &case.pack).map_err(at)?;

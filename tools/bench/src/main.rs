@@ -1,22 +1,33 @@
 //! bench: the library's archives timed beside the Rust original and by themselves, and
 //! held against the recorded vectors and certpack. build.rs brings them in.
+mod building;
 mod check_pace;
 mod checks;
+mod class_answers;
 mod classes;
+#[cfg(feature = "original")]
+mod classes_pace;
+#[cfg(feature = "original")]
+mod clock;
+mod drawn_packs;
 mod edits;
 mod forms;
 #[cfg(feature = "original")]
 mod intern;
+#[cfg(feature = "original")]
+mod joints;
 #[cfg(feature = "original")]
 mod keys;
 mod limits;
 mod numbers;
 mod ours;
 mod pace;
+mod plain;
 mod read;
 mod reads;
 mod recorded;
 mod records;
+mod single;
 #[cfg(feature = "original")]
 #[allow(dead_code)]
 #[path = "../../oracle/src/stand_in/mod.rs"]
@@ -65,7 +76,14 @@ bench: the library beside the Rust original
                           certpack's and document 01's, and that work is cleared
   bench classes FOLDER    build the classes of every recorded pack of FOLDER in the library;
                           check every word and figure beside the recorded ones, in
-                          buffers just long enough, longer, and a cell too short
+                          buffers just long enough, longer, and a cell too short; its
+                          steps without premises one by one, beside their rules; the
+                          same with wrong steps and goals, drawn packs and written ones,
+                          beside a plain builder and document 01
+  bench classes --times   time class building of generated certificates, of up to 100,000
+                          steps, in the library and in the original
+  bench classes --times --quick
+                          up to 10,000 steps and fewer rounds, for tests
   bench unify             unify written pairs of terms and drawn ones in the library;
                           check what comes back beside a plain unifier, and beside the
                           original where it is in the build
@@ -73,24 +91,23 @@ bench: the library beside the Rust original
                           levels, in the library and in the original
   bench unify --times --quick
                           up to 4,000 levels and fewer rounds, for tests
-  bench walk FOLDER       copy written patterns and drawn ones and read them back, and
-                          make the class of each recorded step of FOLDER whose rule has
-                          no premises, in the library; check what comes back beside a
-                          plain renumbering and the recorded classes
+  bench walk              copy written patterns and drawn ones and read them back in the
+                          library; check what comes back beside a plain renumbering
   bench walk --times      time copying and reading back of generated patterns, in the
                           library and in the original
   bench walk --times --quick
                           smaller patterns and fewer rounds, for tests
   bench --help            this page
 
-`bench intern`, `bench unify --times` and `bench walk --times` want a build with the
-feature `original`.
+`bench intern` and all `--times` want a build with the feature `original`.
 Exit status: 0 done; 1 a difference, a fault in the input, a full `bench read` in which
 reading a byte of a largest pack takes over 3 times as long as one of a smallest, a full
-`bench check` in which checking a step takes over 5 times as long, a full `bench unify
---times` or `bench walk --times` in which four times the size takes over 5 times as long,
-or a full `bench walk --times` in which a node of a largest pattern takes over 5 times as
-long as one of a smallest, said in one line on standard error; 2 a wrong call.
+`bench check` or `bench classes --times` in which a step takes over 5 times as long, a full
+`bench classes --times` in which the largest takes longer than in the original, a full
+`bench unify --times` or `bench walk --times` in which four times the size takes over 5
+times as long, or a full `bench walk --times` in which a node of a largest pattern takes
+over 5 times as long as one of a smallest, said in one line on standard error; 2 a wrong
+call.
 ";
 
 fn main() -> ExitCode {
@@ -109,13 +126,15 @@ fn run(args: &[&str]) -> Result<String, Fault> {
         ["checks", folder] => Ok(checks::check(folder)?),
         ["check"] => Ok(check_pace::report(false)?),
         ["check", "--quick"] => Ok(check_pace::report(true)?),
+        ["classes", "--times"] => beside("classes --times", false),
+        ["classes", "--times", "--quick"] => beside("classes --times", true),
         ["classes", folder] => Ok(classes::check(folder)?),
         ["unify"] => Ok(unify::check()?),
         ["unify", "--times"] => beside("unify --times", false),
         ["unify", "--times", "--quick"] => beside("unify --times", true),
+        ["walk"] => Ok(walk::check()?),
         ["walk", "--times"] => beside("walk --times", false),
         ["walk", "--times", "--quick"] => beside("walk --times", true),
-        ["walk", folder] => Ok(walk::check(folder)?),
         _ => Err(cli::unknown(args)),
     }
 }
@@ -125,6 +144,7 @@ fn run(args: &[&str]) -> Result<String, Fault> {
 fn beside(what: &str, quick: bool) -> Result<String, Fault> {
     let report = match what {
         "intern" => intern::report,
+        "classes --times" => classes_pace::report,
         "unify --times" => unify_pace::report,
         _ => walk_pace::report,
     };

@@ -122,7 +122,7 @@ impl Trial {
 }
 
 /// Keeps a pack for inspection, and says where.
-fn kept(pack: &[u8]) -> String {
+pub fn kept(pack: &[u8]) -> String {
     let name = format!("bench-{}.pack", std::process::id());
     let path = std::env::temp_dir().join(name);
     match std::fs::write(&path, pack) {

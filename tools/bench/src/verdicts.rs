@@ -23,17 +23,17 @@ pub fn tries() -> Tries {
 const WIDE: u32 = SYMBOLS;
 
 // The nodes of every pack here, by number.
-const ZERO: u32 = 0;
-const ONE: u32 = 1;
-const TWO: u32 = 2;
-const NAT_0: u32 = 3;
-const NAT_1: u32 = 4;
-const NAT_2: u32 = 5;
-const EQ_00: u32 = 6;
-const EQ_01: u32 = 7;
-const EQ_10: u32 = 8;
-const EQ_11: u32 = 9;
-const TRUTH: u32 = 10;
+pub const ZERO: u32 = 0;
+pub const ONE: u32 = 1;
+pub const TWO: u32 = 2;
+pub const NAT_0: u32 = 3;
+pub const NAT_1: u32 = 4;
+pub const NAT_2: u32 = 5;
+pub const EQ_00: u32 = 6;
+pub const EQ_01: u32 = 7;
+pub const EQ_10: u32 = 8;
+pub const EQ_11: u32 = 9;
+pub const TRUTH: u32 = 10;
 const NODES: [&[u32]; 11] = [
     &[Z],
     &[S, ZERO],
@@ -49,32 +49,32 @@ const NODES: [&[u32]; 11] = [
 ];
 
 // Variables in a rule's words.
-const X: u32 = V;
-const Y: u32 = V + 1;
+pub const X: u32 = V;
+pub const Y: u32 = V + 1;
 
 /// A rule: how many variables of sort N, how many premises, the words of all terms.
-type Rule<'a> = (usize, u16, &'a [u32]);
+pub type Rule<'a> = (usize, u16, &'a [u32]);
 
 /// nat(X) and eq(X, Y), whatever X and Y.
-const ANY: Rule = (1, 0, &[NAT, X]);
-const EQUAL: Rule = (2, 0, &[EQ, X, Y]);
+pub const ANY: Rule = (1, 0, &[NAT, X]);
+pub const EQUAL: Rule = (2, 0, &[EQ, X, Y]);
 /// nat(z), and nat(X) gives nat(s X).
-const NUMBERS: [Rule; 2] = [(0, 0, &[NAT, Z]), (1, 1, &[NAT, X, NAT, S, X])];
+pub const NUMBERS: [Rule; 2] = [(0, 0, &[NAT, Z]), (1, 1, &[NAT, X, NAT, S, X])];
 
 /// What a pack has besides sorts, symbols and the nodes above. A step is its rule, its
 /// judgment, its refs.
 #[derive(Default, Clone, Copy)]
-struct Parts<'a> {
-    rules: &'a [Rule<'a>],
-    nodes: &'a [&'a [u32]],
-    steps: &'a [&'a [u32]],
-    goals: &'a [(u32, &'a str)],
-    results: &'a [(u32, &'a str)],
-    behind: &'a [Vec<u8>],
+pub struct Parts<'a> {
+    pub rules: &'a [Rule<'a>],
+    pub nodes: &'a [&'a [u32]],
+    pub steps: &'a [&'a [u32]],
+    pub goals: &'a [(u32, &'a str)],
+    pub results: &'a [(u32, &'a str)],
+    pub behind: &'a [Vec<u8>],
 }
 
 impl Parts<'_> {
-    fn records(&self) -> Vec<Vec<u8>> {
+    pub fn records(&self) -> Vec<Vec<u8>> {
         let mut records = front(2);
         records.push(symbol(PREDICATE, &[N; 16], b"wide"));
         for (i, &(variables, premises, prefix)) in self.rules.iter().enumerate() {
@@ -93,7 +93,7 @@ impl Parts<'_> {
         records
     }
 
-    fn get(&self, t: &mut Tries, what: &str, wanted: Answer) {
+    pub fn get(&self, t: &mut Tries, what: &str, wanted: Answer) {
         t.answer(what, wanted, &self.records());
     }
 }
@@ -104,7 +104,7 @@ fn step(place: u64) -> Answer {
 }
 
 /// All steps pass, and this goal is the first without its result.
-fn goal(place: u64) -> Answer {
+pub fn goal(place: u64) -> Answer {
     Answer { code: 4, place }
 }
 

@@ -1,10 +1,7 @@
-//! Copies of patterns read back, and classes of steps without premises, in the library: written
-//! patterns and drawn ones beside a plain renumbering, the steps of recorded packs beside a plain
-//! reading of their rules and the recorded classes; and calls that it refuses.
+//! Copies of patterns read back in the library: written patterns and drawn ones beside a plain
+//! renumbering; and calls that it refuses.
 use crate::numbers::Numbers;
 use crate::ours::zeros;
-use certpack::pack::{self, Pack, Rule, Term};
-use certpack::vectors::{self, Case};
 use std::collections::HashMap;
 
 /// What a call says: 0 with a pattern's number, how many variables are numbered and how many cells
@@ -22,7 +19,7 @@ const DONE: u64 = 0;
 const FORM: (u64, u64) = (1, 0);
 const LENGTHS: (u64, u64) = (2, 0);
 const SHORT: u64 = 8;
-/// No list of patterns, no such pattern, no such step or one with premises.
+/// No list of patterns, or no such pattern.
 const NONE: (u64, u64) = (12, 0);
 /// The places of a short buffer.
 const PATTERNS: u64 = 2;
@@ -45,17 +42,6 @@ unsafe extern "C" {
         p: u64,
         copies: u64,
         read: u64,
-        patterns: *mut u32,
-        patterns_len: usize,
-        cells: *mut u32,
-        cells_len: usize,
-        work: *mut u32,
-        work_len: usize,
-    ) -> Walked;
-    fn single_class(
-        pack: *const u8,
-        pack_len: usize,
-        step: u64,
         patterns: *mut u32,
         patterns_len: usize,
         cells: *mut u32,
@@ -96,23 +82,6 @@ impl Lent {
                 asked.p,
                 asked.copies,
                 asked.read,
-                self.patterns.as_mut_ptr(),
-                self.patterns.len(),
-                self.cells.as_mut_ptr(),
-                self.cells.len(),
-                self.work.as_mut_ptr(),
-                self.work.len(),
-            )
-        }
-    }
-
-    fn class(&mut self, pack: &[u8], step: u64) -> Walked {
-        // SAFETY: four slices of their own, each with its own length.
-        unsafe {
-            single_class(
-                pack.as_ptr(),
-                pack.len(),
-                step,
                 self.patterns.as_mut_ptr(),
                 self.patterns.len(),
                 self.cells.as_mut_ptr(),
@@ -229,14 +198,12 @@ pub fn words(nodes: &[Vec<u32>]) -> Vec<u32> {
     words
 }
 
-pub fn check(folder: &str) -> Result<String, String> {
+pub fn check() -> Result<String, String> {
     let written = written()?;
     let drawn = drawn()?;
     refusals()?;
-    let (steps, classes) = recorded(folder)?;
     Ok(format!(
-        "{written} written patterns and {drawn} drawn ones copied and read back, \
-         classes of {steps} recorded steps, {classes} of them beside a recorded class\n"
+        "{written} written patterns and {drawn} drawn ones copied and read back\n"
     ))
 }
 
@@ -458,166 +425,4 @@ fn refusals() -> Result<(), String> {
     let answer = lent.copy(&asked);
     lent.check_refused(answer, (SHORT, WORK))
         .map_err(|why| format!("a word of work less: {why}"))
-}
-
-/// What a rule's conclusion is read back as, into an empty store.
-fn conclusion(rule: &Rule) -> (Store, u32, u32) {
-    fn read(rule: &Rule, term: &Term, store: &mut Store, met: &mut HashMap<u32, u32>) -> u32 {
-        let node = match term {
-            Term::Var(k) => {
-                let next = met.len() as u32;
-                let number = *met.entry(*k).or_insert(next);
-                vec![VAR, number, rule.vars[*k as usize]]
-            }
-            Term::App(head, args) => {
-                let mut node = vec![*head];
-                for arg in args {
-                    node.push(read(rule, arg, store, met));
-                }
-                node
-            }
-        };
-        store.intern(node)
-    }
-    let (mut store, mut met) = (Store::default(), HashMap::new());
-    let at = read(rule, &rule.conclusion, &mut store, &mut met);
-    (store, at, met.len() as u32)
-}
-
-/// The cells of a rule's variables and of its conclusion, a node for each application written.
-fn written_cells(rule: &Rule) -> usize {
-    fn cells(term: &Term) -> usize {
-        match term {
-            Term::Var(_) => 0,
-            Term::App(_, args) => 1 + args.len() + args.iter().map(cells).sum::<usize>(),
-        }
-    }
-    rule.vars.len() + cells(&rule.conclusion)
-}
-
-fn recorded(folder: &str) -> Result<(usize, usize), String> {
-    let (mut steps, mut classes) = (0, 0);
-    for path in vectors::files(folder)? {
-        for case in vectors::read(&path)? {
-            let (s, c) =
-                check_case(&case).map_err(|why| format!("{path}: case {}: {why}", case.name))?;
-            steps += s;
-            classes += c;
-        }
-    }
-    match classes {
-        0 => Err(format!("{folder}: no classes of steps without premises")),
-        _ => Ok((steps, classes)),
-    }
-}
-
-/// The steps of a recorded pack: those without premises have the class of their rule, others none.
-fn check_case(case: &Case) -> Result<(usize, usize), String> {
-    // Of a large pack so many steps of one rule are asked for: each call reads all of it.
-    let each = match case.pack.len() > vectors::INLINE {
-        true => 3,
-        false => usize::MAX,
-    };
-    let pack = pack::decode(&case.pack).map_err(|why| format!("{why:?}"))?;
-    let mut of_rule = vec![0; pack.rules.len()];
-    let (mut steps, mut classes) = (0, 0);
-    for (s, step) in pack.steps.iter().enumerate() {
-        of_rule[step.rule as usize] += 1;
-        if of_rule[step.rule as usize] > each {
-            continue;
-        }
-        let at = |why: String| format!("step {s}: {why}");
-        let rule = &pack.rules[step.rule as usize];
-        if !rule.premises.is_empty() {
-            let mut lent = Lent::new(case.pack.len(), 9, 9);
-            let answer = lent.class(&case.pack, s as u64);
-            lent.check_refused(answer, NONE).map_err(at)?;
-            continue;
-        }
-        let (store, p, numbered) = conclusion(rule);
-        let (words, cells) = (store.words(), written_cells(rule));
-        let mut lent = Lent::new(case.pack.len(), words.len(), cells);
-        let answer = lent.class(&case.pack, s as u64);
-        let wanted = Walked {
-            code: DONE,
-            at: p.into(),
-            numbered: numbered.into(),
-            cells: cells as u64,
-        };
-        lent.check(answer, wanted, &words).map_err(at)?;
-        let mut lent = Lent::new(case.pack.len(), words.len() - 1, cells);
-        let answer = lent.class(&case.pack, s as u64);
-        lent.check_refused(answer, (SHORT, PATTERNS)).map_err(at)?;
-        let mut lent = Lent::new(case.pack.len(), words.len(), cells - 1);
-        let answer = lent.class(&case.pack, s as u64);
-        lent.check_refused(answer, (SHORT, CELLS)).map_err(at)?;
-        steps += 1;
-        if case.classes == "done" && beside(&pack, case, s, &store, p, numbered).map_err(at)? {
-            classes += 1;
-        }
-    }
-    let mut lent = Lent::new(case.pack.len(), 9, 9);
-    for s in [pack.steps.len() as u64, u64::MAX] {
-        let answer = lent.class(&case.pack, s);
-        lent.check_refused(answer, NONE)
-            .map_err(|why| format!("step {s}: {why}"))?;
-    }
-    Ok((steps, classes))
-}
-
-/// The recorded class of step `s`, if it has one of its rule, concludes the same term with as many
-/// variables, none of them flexible.
-fn beside(
-    pack: &Pack,
-    case: &Case,
-    s: usize,
-    store: &Store,
-    p: u32,
-    numbered: u32,
-) -> Result<bool, String> {
-    let class = case.class_words[s];
-    let head = pack.nodes[pack.steps[s].judgment as usize][0];
-    if class == u32::MAX || pack.cut(head).is_some() {
-        return Ok(false);
-    }
-    let mut at = pack.steps.len();
-    for _ in 0..class {
-        at += 3 + case.class_words[at + 2] as usize;
-    }
-    let variables = case.class_words[at + 2];
-    let flex = &case.class_words[at + 3..][..variables as usize];
-    if variables != numbered || flex.contains(&1) {
-        return Err(format!("{numbered} variables, and the class has {flex:?}"));
-    }
-    let theirs = nodes(&case.pattern_words);
-    match same(&theirs, case.class_words[at], &store.nodes, p) {
-        true => Ok(true),
-        false => Err("the recorded class concludes another term".into()),
-    }
-}
-
-/// The nodes that words hold.
-fn nodes(words: &[u32]) -> Vec<Vec<u32>> {
-    let (mut nodes, mut at) = (Vec::new(), 0);
-    while let Some(&count) = words.get(at) {
-        let end = at + 2 + count as usize;
-        nodes.push(words[at + 1..end].to_vec());
-        at = end;
-    }
-    nodes
-}
-
-/// Whether two patterns are the same term.
-fn same(left: &[Vec<u32>], x: u32, right: &[Vec<u32>], y: u32) -> bool {
-    let (a, b) = (&left[x as usize], &right[y as usize]);
-    if a[0] != b[0] || a.len() != b.len() {
-        return false;
-    }
-    if a[0] == VAR {
-        return a == b;
-    }
-    a[1..]
-        .iter()
-        .zip(&b[1..])
-        .all(|(&x, &y)| same(left, x, right, y))
 }

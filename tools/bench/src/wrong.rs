@@ -1,8 +1,7 @@
 //! Recorded packs with words changed so that their form stays good, or nearly so: what
 //! changes is the verdict.
 use crate::edits::{self, Edit, Record, get};
-use crate::read::Answer;
-use crate::trial::Trial;
+use crate::numbers::Numbers;
 use certpack::pack::{self, PREDICATE, Pack, VARIABLE};
 
 /// A larger pack is left as it is.
@@ -11,58 +10,39 @@ const LARGEST: usize = 8 << 10;
 const OF_A_SORT: usize = 32;
 const PAIRS: usize = 64;
 
-/// How many changed packs there were, and how many got each answer.
-#[derive(Default)]
-pub struct Counts {
-    pub packs: usize,
-    pub step: usize,
-    pub goal: usize,
-    pub form: usize,
-}
-
-impl Counts {
-    fn add(&mut self, answer: Answer) {
-        self.packs += 1;
-        match answer.code {
-            1 => self.form += 1,
-            3 => self.step += 1,
-            4 => self.goal += 1,
-            _ => {}
-        }
-    }
-}
-
 /// One field changed, or two.
 type Change = [Option<Edit>; 2];
 
-pub fn check(trial: &mut Trial, bytes: &[u8], counts: &mut Counts) -> Result<(), String> {
+/// Changes of a pack, drawn; `test` looks at each.
+pub fn check(
+    drawn: &mut Numbers,
+    bytes: &[u8],
+    mut test: impl FnMut(&[u8]) -> Result<(), String>,
+) -> Result<(), String> {
     if bytes.len() > LARGEST {
         return Ok(());
     }
     let pack = pack::decode(bytes).map_err(|refusal| refusal.to_string())?;
     let records = edits::records(bytes, &pack);
-    let mut one = |trial: &mut Trial, changes: &[Change]| -> Result<(), String> {
+    let mut one = |changes: &[Change]| -> Result<(), String> {
         let edits: Vec<Edit> = changes.iter().flatten().flatten().copied().collect();
         let change = |bytes: Vec<u8>, edit: &Edit| edit.apply(&bytes, &records);
         let changed = edits.iter().fold(bytes.to_vec(), change);
-        let answer = trial.agrees(&changed);
-        counts.add(answer.map_err(|why| format!("{edits:?}: {why}"))?);
-        Ok(())
+        test(&changed).map_err(|why| format!("{edits:?}: {why}"))
     };
     let mut all = Vec::new();
     for mut changes in Words::new(bytes, &pack, &records).changes() {
         for i in 0..changes.len().min(OF_A_SORT) {
-            let drawn = i + trial.drawn.below(changes.len() - i);
-            changes.swap(i, drawn);
-            one(trial, &[changes[i]])?;
+            let other = i + drawn.below(changes.len() - i);
+            changes.swap(i, other);
+            one(&[changes[i]])?;
         }
         changes.truncate(OF_A_SORT);
         all.append(&mut changes);
     }
     if !all.is_empty() {
         for _ in 0..PAIRS {
-            let pair = [0; 2].map(|_| all[trial.drawn.below(all.len())]);
-            one(trial, &pair)?;
+            one(&[0; 2].map(|_| all[drawn.below(all.len())]))?;
         }
     }
     Ok(())

@@ -1,5 +1,6 @@
 //! Judges a recorded case without the original: what document 01 says of classes,
 //! patterns, figures, shown goals and lines, tested on the recorded words and text.
+use crate::needed::{first_steps, is_cut, needed, predicate, refs, slot};
 use crate::pack::{Pack, decode};
 use crate::vectors::Case;
 use crate::verdict::verdict;
@@ -128,43 +129,13 @@ impl<'a> Run<'a> {
             });
             rest = &rest[3 + variables..];
         }
-        let mut by_judgment = HashMap::new();
-        let first = (0..n as u32)
-            .map(|s| {
-                *by_judgment
-                    .entry(pack.steps[s as usize].judgment)
-                    .or_insert(s)
-            })
-            .collect();
         Ok(Run {
             pack,
             class_of,
             rows,
             patterns,
-            first,
+            first: first_steps(pack),
         })
-    }
-
-    fn predicate(&self, step: usize) -> u32 {
-        self.pack.nodes[self.pack.steps[step].judgment as usize][0]
-    }
-
-    fn is_cut(&self, step: usize) -> bool {
-        self.pack.cut(self.predicate(step)).is_some()
-    }
-
-    fn needed(&self) -> Vec<bool> {
-        let mut needed = vec![false; self.first.len()];
-        let results = self.pack.results.iter();
-        let mut todo: Vec<u32> = results.map(|r| self.first[r.at as usize]).collect();
-        while let Some(s) = todo.pop() {
-            let s = s as usize;
-            if !std::mem::replace(&mut needed[s], true) && !self.is_cut(s) {
-                let refs = self.pack.steps[s].refs.iter();
-                todo.extend(refs.map(|&r| self.first[r as usize]));
-            }
-        }
-        needed
     }
 
     /// Classes follow the keys, counts the steps, and every needed step's judgment is
@@ -172,18 +143,17 @@ impl<'a> Run<'a> {
     fn classes(&self) -> Judged {
         let mut keys: HashMap<Vec<u32>, u32> = HashMap::new();
         let mut counts = vec![0; self.rows.len()];
-        for (s, needed) in self.needed().into_iter().enumerate() {
+        for (s, needed) in needed(self.pack, &self.first).into_iter().enumerate() {
             let class = self.class_of[s];
             if !needed {
                 test(class == NONE, format!("unneeded step {s} has a class"))?;
                 continue;
             }
             let step = &self.pack.steps[s];
-            let key = if self.is_cut(s) {
-                vec![VAR, self.predicate(s)]
+            let key = if is_cut(self.pack, s) {
+                vec![VAR, predicate(self.pack, s)]
             } else {
-                let refs = step.refs.iter();
-                let classes = refs.map(|&r| self.class_of[self.first[r as usize] as usize]);
+                let classes = refs(self.pack, &self.first, s).map(|r| self.class_of[r]);
                 [step.rule].into_iter().chain(classes).collect()
             };
             let next = keys.len() as u32;
@@ -268,7 +238,7 @@ impl<'a> Run<'a> {
         )?;
         let made = self.rows.iter().enumerate().filter(|(c, _)| {
             let step = self.class_of.iter().position(|k| *k as usize == *c);
-            step.is_some_and(|s| !self.is_cut(s))
+            step.is_some_and(|s| !is_cut(self.pack, s))
         });
         let marks: Vec<u32> = made.flat_map(|(_, row)| row.flex.clone()).collect();
         test(
@@ -280,12 +250,7 @@ impl<'a> Run<'a> {
         test(renamings <= entries, "more renamings than entries")?;
         let mut slots = [0; 4];
         for row in &self.rows {
-            slots[match row.count {
-                0 | 1 => 0,
-                2..=9 => 1,
-                10..=99 => 2,
-                _ => 3,
-            }] += 1;
+            slots[slot(row.count)] += 1;
         }
         test(figures[9..] == slots, "the histogram")
     }

@@ -1,10 +1,12 @@
 //! Host-side handling of packs: the format, the text it is made from, its dump,
-//! the verdict on its steps, and the recorded answers of the Rust original.
+//! the verdict on its steps, which of them are needed, and the recorded answers of the Rust
+//! original.
 //! Written from document 01 alone, so that it can judge the library from outside.
 pub mod cli;
 pub mod dump;
 pub mod file;
 pub mod judge;
+pub mod needed;
 pub mod pack;
 pub mod sexp;
 pub mod text;

@@ -5,7 +5,7 @@ use Prim.Native.Nat.{_≤_}
 use native.Mathlib.Omega.{arith}
 use lib.ListN.{length, take, length-set}
 use lib.Seq.{take-length}
-use Rattle.base.specs.Text.{over, write-fits, write-short}
+use Rattle.buffer.specs.Text.{over, write-fits, write-short}
 use Rattle.records.specs.Added.{put-turn, put-end}
 use Rattle.records.proofs.put_bytes.Statement.{statement}
 use Rattle.records.proofs.put_bytes.Tie as tie

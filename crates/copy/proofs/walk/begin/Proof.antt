@@ -1,8 +1,8 @@
 -- `begin` meets its contract.
 use borrow.Author.Needs.{needs}
 use native.Mathlib.Omega.{arith}
-use Rattle.copy.specs.Held.{tableIn}
-use Rattle.store.specs.Recall.{recall}
+use Rattle.fresh.specs.Held.{tableIn}
+use Rattle.memo.specs.Recall.{recall}
 use Rattle.copy.specs.Begun.{third-long, begun}
 use Rattle.base.specs.Part.{part}
 use lib.ListN.{length, length-set}

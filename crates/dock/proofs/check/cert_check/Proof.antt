@@ -3,7 +3,7 @@ use borrow.Author.Needs.{needs}
 use mathlib.Core.Path.{ap, _∙_}
 use Prim.Native.Nat.{ℕ}
 use lib.ListN.{replicate}
-use Rattle.base.specs.Zero.{zeroed-all}
+use Rattle.buffer.specs.Zero.{zeroed-all}
 use Rattle.call.specs.Outcome.{refusalOf}
 use Rattle.dock.specs.Check.{check-left, check-statement}
 use Rattle.dock.proofs.check.cert_check.Statement.{statement}

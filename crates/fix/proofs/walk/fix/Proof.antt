@@ -3,7 +3,7 @@ use borrow.Author.Needs.{needs}
 use native.Mathlib.Omega.{arith}
 use mathlib.Core.Path.{_≡_}
 use Prim.Native.Nat.{_+_}
-use Rattle.fix.specs.Words.{tableIn}
+use Rattle.valuation.specs.Words.{tableIn}
 use Rattle.fix.specs.Turns.{leftIn}
 use Rattle.fix.specs.Fixes.{Going, going-none, going-at, going-ready, going-on, going-less, first-ready, fixes-done, fixes-differs}
 use Rattle.fix.proofs.walk.fix.Statement.{statement}

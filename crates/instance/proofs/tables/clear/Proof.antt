@@ -1,7 +1,7 @@
 -- `clear` meets its contract.
 use borrow.Author.Needs.{needs}
 use lib.ListN.{length}
-use Rattle.store.specs.Recall.{recall}
+use Rattle.memo.specs.Recall.{recall}
 use Rattle.instance.specs.Tables.{lent, clears}
 use Rattle.instance.proofs.tables.clear.Statement.{statement}
 use Rattle.instance.proofs.tables.clear.Tie as tie

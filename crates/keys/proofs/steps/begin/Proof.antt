@@ -1,7 +1,7 @@
 -- `begin` meets its contract.
 use borrow.Author.Needs.{needs}
 use native.Mathlib.Omega.{arith}
-use Rattle.keys.specs.Words.{placed}
+use Rattle.key.specs.Words.{placed}
 use Rattle.keys.specs.Turns.{begin-marks, begin-slots, begun-state}
 use Rattle.keys.proofs.steps.begin.Statement.{statement}
 use Rattle.keys.proofs.steps.begin.Tie as tie

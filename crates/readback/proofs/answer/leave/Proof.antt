@@ -1,6 +1,6 @@
 -- `leave` meets its contract.
 use mathlib.Core.Path.{_∙_}
-use Rattle.base.specs.Zero.{zeroed-all}
+use Rattle.buffer.specs.Zero.{zeroed-all}
 use Rattle.readback.specs.Walks.{left-told}
 use borrow.Author.Needs.{needs}
 use Rattle.readback.proofs.answer.leave.Statement.{statement}

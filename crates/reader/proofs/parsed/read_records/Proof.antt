@@ -4,7 +4,7 @@ use mathlib.Core.Path.{_≡_}
 use Prim.Native.Nat.{_-_}
 use native.Mathlib.Omega.{arith}
 use lib.ListN.{length}
-use Rattle.certificate.specs.Marks.{Beyond}
+use Rattle.cuts.specs.Marks.{Beyond}
 use Rattle.reader.specs.Walk.{Walking}
 use Rattle.reader.specs.Parsed.{tablesOf, beyond-same, beyond-then, at-end}
 use Rattle.reader.proofs.parsed.read_records.Statement.{statement}

@@ -3,7 +3,7 @@ use borrow.Author.Needs.{needs}
 use native.Mathlib.Omega.{arith}
 use mathlib.Core.Path.{_≡_, refl, _∙_}
 use lib.ListN.{length}
-use Rattle.root.specs.Words.{tableIn}
+use Rattle.table.specs.Words.{tableIn}
 use Rattle.resolve.specs.Measure.{turnsIn}
 use Rattle.resolve.specs.Runs.{Walks, walks-at, turns-at, walks-none, walks-turning, walks-on, walks-less, walks-short, done-there, done-some, walks-done}
 use Rattle.resolve.specs.Starts.{first-asking, first-ready, first-low, first-walks, first-short, first-done}

@@ -2,7 +2,7 @@
 use borrow.Author.Needs.{needs}
 use mathlib.Core.Path.{refl}
 use Rattle.root.specs.Ways.{applied-ripe, applied-indexed, applied-short, applied-gives}
-use Rattle.root.specs.Keys.{keyed-lent}
+use Rattle.table.specs.Keys.{keyed-lent}
 use Rattle.root.proofs.root.read_applied.Statement.{statement}
 use Rattle.root.proofs.root.read_applied.Tie as tie
 

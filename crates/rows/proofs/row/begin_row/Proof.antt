@@ -13,7 +13,7 @@ slice-write-class-3 : tie.Need-slice-write-class-3
 slice-write-class-3 c = simp length-set (omega (arith, c .before .pre .room))
 
 returns : tie.Need-returns
-returns c = let a = c .before .args in begun (a .work .now) (a .class .now) (a .l) (a .fill) (a .i) (a .conclusion) (a .count) (a .n) (c .before .pre)
+returns c = let a = c .before .args in begun (a .work .now) (a .class .now) (a .l) (a .fill) (a .i) (a .conclusion .0) (a .count) (a .n) (c .before .pre)
 
 pub begin-row-spec : {M : Type 1} → statement M
 begin-row-spec =

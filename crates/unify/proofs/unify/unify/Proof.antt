@@ -5,7 +5,7 @@ use Prim.Native.Nat.{ℕ, _+_, _-_}
 use native.Mathlib.Omega.{arith}
 use lib.ListN.{length, length-set}
 use Rattle.graph.specs.Cells.{rowsEnd}
-use Rattle.unify.specs.Pairs.{Topmost}
+use Rattle.meet.specs.Pairs.{Topmost}
 use Rattle.unify.specs.Unifies.{Going, first-long, first-held, first-topmost, topmost-at, going-first, joined-first, clash-first, going-at, going-ready, going-few, going-on, going-clash, going-done}
 use Rattle.unify.proofs.unify.unify.Statement.{statement}
 use Rattle.unify.proofs.unify.unify.Tie as tie

@@ -6,7 +6,7 @@ use native.Mathlib.Omega.{arith}
 use lib.ListN.{length}
 use Rattle.pack.specs.Reads.{length-steps}
 use Rattle.pack.specs.Held.{readable}
-use Rattle.verdict.specs.Turns.{step-ready, step-decided, judgments-room}
+use Rattle.matching.specs.Turns.{step-ready, step-decided, judgments-room}
 use Rattle.verdict.proofs.steps.step_passes.Statement.{statement}
 use Rattle.verdict.proofs.steps.step_passes.Tie as tie
 

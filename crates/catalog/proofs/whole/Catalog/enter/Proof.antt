@@ -4,7 +4,7 @@ use mathlib.Core.Path.{sym, subst}
 use mathlib.Core.List.{List}
 use Prim.Native.Nat.{ℕ}
 use native.Mathlib.Omega.{arith}
-use Rattle.catalog.specs.Region.{Keyed, Enters, Entering}
+use Rattle.region.specs.Region.{Keyed, Enters, Entering}
 use Rattle.catalog.specs.Whole.{lent, unlent, lent-put, lent-inside, entering-in, entered-in, EntersIn}
 use Rattle.catalog.proofs.whole.Catalog.enter.Statement.{statement}
 use Rattle.catalog.proofs.whole.Catalog.enter.Tie as tie

@@ -1,7 +1,7 @@
 -- `Catalog::find` meets its contract.
 use borrow.Author.Needs.{needs}
 use native.Mathlib.Omega.{arith}
-use Rattle.catalog.specs.Region.{Keyed, Finds}
+use Rattle.region.specs.Region.{Keyed, Finds}
 use Rattle.catalog.specs.Whole.{lent, unlent, lent-inside, sought-in}
 use Rattle.catalog.proofs.whole.Catalog.find.Statement.{statement}
 use Rattle.catalog.proofs.whole.Catalog.find.Tie as tie

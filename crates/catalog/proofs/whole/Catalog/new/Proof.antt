@@ -4,7 +4,7 @@ use mathlib.Core.Path.{_≡_, refl, subst}
 use Prim.Native.Nat.{ℕ, _-_, _≤_, _<_}
 use native.Mathlib.Omega.{arith}
 use lib.ListN.{length}
-use Rattle.catalog.specs.Region.{sizeFor}
+use Rattle.region.specs.Region.{sizeFor}
 use Rattle.catalog.specs.Whole.{Clearing, clearing-none, clearing-lent, all-cleared, cap-most, lent, lent-inside, length-region}
 use Rattle.catalog.specs.declared.whole.Catalog.{Catalog}
 use Rattle.catalog.proofs.whole.Catalog.new.Statement.{statement}

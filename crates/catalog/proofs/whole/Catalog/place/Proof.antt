@@ -3,7 +3,7 @@ use mathlib.Core.Path.{_≡_, sym, ap, _∙_}
 use Prim.Native.Nat.{ℕ, _+_, _*_}
 use native.Mathlib.Omega.{arith}
 use lib.ListN.{getD}
-use Rattle.catalog.specs.Place.{Place}
+use Rattle.region.specs.Place.{Place}
 use Rattle.catalog.specs.Whole.{region-inside, startOf, length-records, records-at, region-at}
 use Rattle.catalog.proofs.whole.Catalog.place.Statement.{statement}
 use Rattle.catalog.proofs.whole.Catalog.place.Tie as tie

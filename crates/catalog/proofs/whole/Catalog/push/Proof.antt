@@ -4,7 +4,7 @@ use mathlib.Core.Path.{_≡_, sym, subst}
 use mathlib.Core.List.{List, [], _∷_, _++_}
 use Prim.Native.Nat.{ℕ}
 use native.Mathlib.Omega.{arith}
-use Rattle.catalog.specs.Region.{places, Kept, Entering}
+use Rattle.region.specs.Region.{places, Kept, Entering}
 use Rattle.catalog.specs.Whole.{lent, unlent, lent-put, lent-inside, entering-in, pushed-in, More}
 use Rattle.catalog.proofs.whole.Catalog.push.Statement.{statement}
 use Rattle.catalog.proofs.whole.Catalog.push.Tie as tie

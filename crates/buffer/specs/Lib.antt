@@ -1,0 +1,3 @@
+-- What clearing and writing leave in a buffer.
+pub mod Zero
+pub mod Text

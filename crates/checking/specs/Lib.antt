@@ -1,0 +1,2 @@
+-- A pack that was read, and what judging it comes to.
+pub mod Opened

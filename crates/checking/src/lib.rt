@@ -1,0 +1,2 @@
+// What the step check comes to, ahead of clearing.
+pub mod outcome;

@@ -1,0 +1,2 @@
+-- A rule's terms as they are spelt.
+pub mod Spelt

@@ -1,0 +1,2 @@
+-- The row of a cut class, word by word.
+pub mod Marks

@@ -1,0 +1,3 @@
+-- A cut record, and the marks of cut predicates.
+pub mod Cut
+pub mod Marks

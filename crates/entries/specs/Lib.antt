@@ -1,0 +1,2 @@
+-- What reading the copies' variables back answers.
+pub mod Entries

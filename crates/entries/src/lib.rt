@@ -1,0 +1,2 @@
+// The variables of the copies read back.
+pub mod entries;

@@ -1,0 +1,3 @@
+-- One class's answer, and the sums over all.
+pub mod Answer
+pub mod Totals

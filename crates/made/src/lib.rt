@@ -1,0 +1,3 @@
+// What making a class comes to, and the figures' sums over the classes.
+pub mod answer;
+pub mod totals;

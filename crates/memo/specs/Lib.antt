@@ -1,0 +1,2 @@
+-- What a memo's table holds.
+pub mod Recall

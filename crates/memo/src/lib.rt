@@ -1,0 +1,2 @@
+// Memos: maps by dense numbers that clear at once.
+pub mod memo;

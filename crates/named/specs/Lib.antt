@@ -1,0 +1,2 @@
+-- Goals and the results of their names.
+pub mod Goals

@@ -1,0 +1,2 @@
+-- What class building comes to, of the lengths lent.
+pub mod Comes

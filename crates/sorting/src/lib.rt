@@ -1,0 +1,2 @@
+// What class building comes to, ahead of clearing.
+pub mod outcome;

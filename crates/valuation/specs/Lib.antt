@@ -1,0 +1,3 @@
+-- The words that ground values stand in.
+pub mod Words
+pub mod Stores
