@@ -1,6 +1,7 @@
 -- Laws of parts of a buffer, of what a call leaves as it was, and of probe tables.
 pub mod Part
 pub mod Outside
+pub mod Lent
 pub mod Upto
 pub mod Listed
 pub mod Hash

@@ -1,8 +1,7 @@
 -- What class building comes to: the classes, the goals' tests and the figures, as the definition has them.
-use mathlib.Core.Path.{_≡_, refl, sym, ap, _∙_, subst}
+use mathlib.Core.Path.{_≡_, _∙_}
 use mathlib.Core.List.{List}
 use Prim.Native.Nat.{ℕ, _+_, _*_, _≤_, _<_}
-use native.Mathlib.Omega.{arith}
 use lib.ListN.{length, take}
 use Rattle.definition.specs.Pack.{Pack}
 use Rattle.definition.specs.Frame.{fine, refuse}
@@ -13,7 +12,7 @@ use Rattle.definition.specs.Keys.{keyed as keysOf}
 use Rattle.definition.specs.Classes.{Built, makeClasses, buildClasses, classWords}
 use Rattle.definition.specs.Figures.{figures}
 use Rattle.definition.specs.Goals.{Root, testGoals}
-use Rattle.definition.specs.Calls.{Classed, classRun}
+use Rattle.definition.specs.Calls.{classRun}
 use Rattle.definition.specs.declared.Figures.{Figures}
 use Rattle.definition.specs.declared.Refusal.{Refusal}
 use Rattle.memo.specs.declared.memo.Memo.{Memo}
@@ -28,7 +27,7 @@ use Rattle.rows.specs.Standing.{Standing}
 use Rattle.derive.specs.Done.{Lends}
 use Rattle.made.specs.Totals.{Sums}
 use Rattle.made.specs.declared.totals.Totals.{Totals}
-use Rattle.ready.specs.Ready.{Opened, unbuilt}
+use Rattle.ready.specs.Ready.{unbuilt}
 use Rattle.build.specs.declared.build.Answer.{Answer}
 use Rattle.build.specs.declared.build.Answer.the-variants as answers
 

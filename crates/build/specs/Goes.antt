@@ -1,16 +1,11 @@
 -- Class building part by part: all classes, then the goals; all made ready, then all classes.
-use mathlib.Core.Path.{_≡_, refl, sym, ap, _∙_, subst}
+use mathlib.Core.Path.{_≡_, refl, sym, _∙_, subst}
 use mathlib.Core.List.{List}
-use Prim.Native.Nat.{ℕ, _+_, _*_, _≤_, _<_}
+use Prim.Native.Nat.{ℕ, _<_}
 use native.Mathlib.Omega.{arith}
 use lib.ListN.{length}
 use Rattle.definition.specs.Pack.{Pack}
-use Rattle.definition.specs.Frame.{fine, refuse}
-use Rattle.definition.specs.Answer.{Lent}
-use Rattle.definition.specs.Run.{outcome}
-use Rattle.definition.specs.Classes.{Built, buildClasses}
-use Rattle.definition.specs.Calls.{classRun}
-use Rattle.definition.specs.declared.Figures.{Figures}
+use Rattle.definition.specs.Classes.{Built}
 use Rattle.definition.specs.declared.Refusal.{Refusal}
 use Rattle.definition.specs.declared.Refusal.the-variants as refusals
 use Rattle.memo.specs.declared.memo.Memo.{Memo}
@@ -18,19 +13,17 @@ use Rattle.store.specs.declared.nodes.Store.{Store}
 use Rattle.catalog.specs.Whole.{recordsOf, Fits}
 use Rattle.catalog.specs.declared.whole.Catalog.{Catalog}
 use Rattle.pack.specs.Reads.{length-steps}
-use Rattle.pack.specs.Held.{OfHeld}
 use Rattle.key.specs.declared.classes.Keying.{Keying}
 use Rattle.key.specs.declared.classes.Counts.{Counts}
 use Rattle.premise.specs.declared.layout.Layout.{Layout}
 use Rattle.rows.specs.Standing.{Standing, standing-held}
-use Rattle.derive.specs.Done.{Lends}
 use Rattle.classes.specs.All as all
 use Rattle.made.specs.declared.totals.Totals.{Totals}
 use Rattle.classes.specs.declared.all.Building.the-variants as building
 use Rattle.ready.specs.Ready.{Opened, Readies, Starts, unbuilt}
 use Rattle.ready.specs.declared.ready.Ready.the-variants as ready
 use Rattle.build.specs.Words.{class-words, class-fits, pattern-words, pattern-fits}
-use Rattle.build.specs.Build.{Ended, Testing, Ends, Answered, Begun, Beginning, restRun, Goes, Builds, run-unbuilt, run-untested, run-done}
+use Rattle.build.specs.Build.{Ended, Testing, Ends, Begun, Beginning, Goes, Builds, run-unbuilt, run-untested, run-done}
 use Rattle.build.specs.declared.build.Answer.{Answer}
 use Rattle.build.specs.declared.build.Answer.the-variants as answers
 

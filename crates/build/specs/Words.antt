@@ -1,12 +1,11 @@
 -- The words that are left when all classes are made: those of the classes, and those of the patterns.
 use mathlib.Core.Path.{_≡_, ap, ap₂, _∙_}
 use mathlib.Core.List.{List, _++_}
-use Prim.Native.Nat.{ℕ, _+_, _≤_}
+use Prim.Native.Nat.{ℕ, _≤_}
 use native.Mathlib.Omega.{arith}
 use lib.ListN.{length, take}
 use lib.Seq.{take-add}
 use Rattle.definition.specs.Pack.{Pack}
-use Rattle.definition.specs.Keys.{keyed as keysOf}
 use Rattle.definition.specs.Store.{patternWords}
 use Rattle.definition.specs.Classes.{Built, classWords}
 use Rattle.base.specs.Part.{part}

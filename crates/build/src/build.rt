@@ -17,7 +17,6 @@ use premise::layout::Layout;
 use ready::ready::Ready;
 use ready::ready::make_ready;
 use store::nodes::Store;
-ghost use mathlib.Core.Path.{_≡_};
 ghost use Prim.Native.Nat.{_<_};
 ghost use lib.ListN.{length};
 ghost use Rattle.ready.specs.Ready.{Opened};

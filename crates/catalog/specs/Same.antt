@@ -1,14 +1,12 @@
 -- Where the words up to the tables' end are as they were, so are the records.
 use mathlib.Core.Path.{_≡_, refl, sym, ap, subst, _∙_}
-use mathlib.Core.Bool.{true}
 use mathlib.Core.List.{List}
-use Prim.Native.Nat.{ℕ, _+_, _*_, _≤_, _<_}
+use Prim.Native.Nat.{ℕ, _+_, _*_, _<_}
 use native.Mathlib.Omega.{arith}
 use lib.ListN.{length, getD}
 use Rattle.base.specs.Part.{part-same}
-use Rattle.region.specs.Place.{Place}
 use Rattle.region.specs.Region.{sizeFor, places, Kept, Keyed}
-use Rattle.catalog.specs.Whole.{capOf, startOf, regionOf, recordsOf, keyedKind, Fits, Cataloged, region-inside}
+use Rattle.catalog.specs.Whole.{capOf, startOf, regionOf, recordsOf, Fits, Cataloged, region-inside}
 use Rattle.catalog.specs.declared.whole.Catalog.{Catalog}
 
 -- where the tables end

@@ -10,7 +10,8 @@ use borrow.Author.Tests.{lt-ltb, le-ltb, ne-eqb}
 use lib.Dec.{eqb, ltb}
 use lib.ListN.{length, getD, set, take, drop, length-set}
 use Rattle.definition.specs.Test.{_and_, never}
-use Rattle.base.specs.Part.{part, put, part-at, part-set-behind, part-lent, put-lent, put-part, length-part, part-put, put-before, put-behind, part-put-before, part-put-behind, length-put}
+use Rattle.base.specs.Outside.{Outside, outside-none, outside-then, outside-wider, outside-put}
+use Rattle.base.specs.Part.{part, put, part-at, part-set-behind, part-lent, put-lent, put-part, length-part, part-put, part-put-before, part-put-behind, length-put}
 use Rattle.region.specs.Place.{Place, noPlace, keyAt, Framed}
 use Rattle.region.specs.Region.{sizeFor, countIn, placeIn, places, Kept, Keyed, Finds, Enters, Entering, Emptied}
 use Rattle.region.specs.Laws.{length-places, places-at}
@@ -61,16 +62,14 @@ abbrev pub OthersKept : List ℕ → List ℕ → Catalog → ℕ → Type 0
 OthersKept work work′ c k = (j : ℕ) → j < 9 → (j ≡ k → ⊥) → recordsOf work′ c j ≡ recordsOf work c j
 
 -- what stands before the regions and behind them is as it was
-pub record Outside (work work′ : List ℕ) (c : Catalog) : Type 0 where
-  pub long : length work′ ≡ length work
-  pub ahead : (i : ℕ) → i < c .at → getD work′ i 0 ≡ getD work i 0
-  pub beyond : (i : ℕ) → c .at + 9 * sizeFor (c .cap) ≤ i → getD work′ i 0 ≡ getD work i 0
+abbrev pub Beside : List ℕ → List ℕ → Catalog → Type 0
+Beside work work′ c = Outside (c .at) (c .at + 9 * sizeFor (c .cap)) work work′
 
 -- one record more of a kind
 pub record More (bytes work work′ : List ℕ) (c : Catalog) (k : ℕ) (p : Place) : Type 0 where
   pub more : recordsOf work′ c k ≡ recordsOf work c k ++ (p ∷ [])
   pub others : OthersKept work work′ c k
-  pub outside : Outside work work′ c
+  pub outside : Beside work work′ c
   pub cataloged : Cataloged bytes work′ c
 
 abbrev pub FindsIn : List ℕ → List Place → List ℕ → Type 0
@@ -121,16 +120,6 @@ regions-apart c j k h =
     let m : suc j * sizeFor (c .cap) ≤ k * sizeFor (c .cap) = mul-le-mul-right (sizeFor (c .cap)) h in
     omega (arith, cap-most c j)
 
-outside-same : (work : List ℕ) (c : Catalog) → Outside work work c
-outside-same work c = record { long = refl; ahead = λ i l. refl; beyond = λ i l. refl }
-
-outside-then : (work work′ work″ : List ℕ) (c : Catalog) → Outside work work′ c → Outside work′ work″ c → Outside work work″ c
-outside-then work work′ work″ c A B = record {
-  long = B .long ∙ A .long;
-  ahead = λ i l. B .ahead i l ∙ A .ahead i l;
-  beyond = λ i l. B .beyond i l ∙ A .beyond i l;
-}
-
 -- ---- a region that was lent and came back
 module _ (work : List ℕ) (c : Catalog) (F : Fits work c) (k : ℕ) (h : k < 9) (r : List ℕ) (long : length r ≡ sizeFor (capOf c k)) where
   abbrev n : ℕ
@@ -145,12 +134,8 @@ module _ (work : List ℕ) (c : Catalog) (F : Fits work c) (k : ℕ) (h : k < 9)
   put-fits : Fits work′ c
   put-fits = record { small = F .small; fits = omega (arith, F .fits, length-put (startOf c k) n work inside r long) }
 
-  put-outside : Outside work work′ c
-  put-outside = record {
-    long = length-put (startOf c k) n work inside r long;
-    ahead = λ i l. put-before (startOf c k) n work inside r long i (omega arith);
-    beyond = λ i l. put-behind (startOf c k) n work inside r long i (omega (arith, region-inside c k h));
-  }
+  put-outside : Beside work work′ c
+  put-outside = outside-wider (startOf c k) (startOf c k + n) (c .at) (c .at + 9 * sizeFor (c .cap)) work work′ (omega arith) (omega (arith, region-inside c k h)) (outside-put (startOf c k) n work r inside long)
 
   region-same : regionOf work′ c k ≡ r
   unfolding regionOf
@@ -254,16 +239,16 @@ entering-in bytes work c k p E = record { framed = E .framed; room = omega (arit
 pub record Cleared (before work : List ℕ) (c : Catalog) : Type 0 where
   pub none : (k : ℕ) → k < 9 → recordsOf work c k ≡ []
   pub cataloged : (bytes : List ℕ) → Cataloged bytes work c
-  pub outside : Outside before work c
+  pub outside : Beside before work c
 
 -- the regions below k are without records, and nothing else has changed
 pub record Clearing (before work : List ℕ) (c : Catalog) (k : ℕ) : Type 0 where
   pub fits : Fits work c
   pub emptied : (j : ℕ) → j < k → Emptied (regionOf work c j) (capOf c j) (keyedKind j)
-  pub outside : Outside before work c
+  pub outside : Beside before work c
 
 pub clearing-none : (work : List ℕ) (c : Catalog) → Fits work c → Clearing work work c 0
-clearing-none work c F = record { fits = F; emptied = λ j h. absurd (omega arith); outside = outside-same work c }
+clearing-none work c F = record { fits = F; emptied = λ j h. absurd (omega arith); outside = outside-none (c .at) (c .at + 9 * sizeFor (c .cap)) work }
 
 clearing-more : (before work : List ℕ) (c : Catalog) (k : ℕ) (r : List ℕ) → k < 9 → Clearing before work c k → Emptied r (capOf c k) (keyedKind k) → Clearing before (put (startOf c k) (sizeFor (capOf c k)) r work) c (k + 1)
 clearing-more before work c k r h C E =
@@ -271,7 +256,7 @@ clearing-more before work c k r h C E =
     record {
       fits = put-fits work c (C .fits) k h r long;
       emptied = λ j l. put-each work c (C .fits) k h r long (λ x i. Emptied x (capOf c i) (keyedKind i)) j (omega arith) E (λ d. C .emptied j (omega (arith, d)));
-      outside = outside-then before work (put (startOf c k) (sizeFor (capOf c k)) r work) c (C .outside) (put-outside work c (C .fits) k h r long);
+      outside = outside-then (c .at) (c .at + 9 * sizeFor (c .cap)) before work (put (startOf c k) (sizeFor (capOf c k)) r work) (C .outside) (put-outside work c (C .fits) k h r long);
     }
 
 pub all-cleared : (before work : List ℕ) (c : Catalog) → Clearing before work c 9 → Cleared before work c

@@ -18,8 +18,8 @@ pub fn take_goal(pack: &[u8], body: &[u8], work: &mut [u32], c: Catalog, at: usi
     if body.len() < 4 {
         return Taken::Bad;
     }
-    let node = u32_at(body, 0) as usize;
-    if c.count(work, 3) <= node {
+    let node = Ground(u32_at(body, 0));
+    if c.count(work, 3) <= node.0 as usize {
         return Taken::Bad;
     }
     if node_sort(pack, work, c, node) != Ground::PROP {

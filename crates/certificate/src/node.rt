@@ -1,4 +1,5 @@
 // Ground nodes.
+use base::id::Ground;
 use buffer::little::u32_at;
 use catalog::whole::Catalog;
 use frame::row::word;
@@ -27,8 +28,8 @@ fn arguments_fit(
     let nodes = c.count(work, 3);
     let mut i = 0;
     while i < arity {
-        let n = word(body, 4, i) as usize;
-        if nodes <= n {
+        let n = Ground(word(body, 4, i));
+        if nodes <= n.0 as usize {
             return false;
         }
         if node_sort(pack, work, c, n) != symbol_input(pack, work, c, head, i) {

@@ -22,8 +22,8 @@ pub fn take_step(pack: &[u8], body: &[u8], work: &mut [u32], c: Catalog, at: usi
     if c.count(work, 2) <= rule {
         return Taken::Bad;
     }
-    let judgment = u32_at(body, 4) as usize;
-    if c.count(work, 3) <= judgment {
+    let judgment = Ground(u32_at(body, 4));
+    if c.count(work, 3) <= judgment.0 as usize {
         return Taken::Bad;
     }
     if node_sort(pack, work, c, judgment) != Ground::PROP {

@@ -1,13 +1,12 @@
 -- The predicate that a rule concludes: the first word of its conclusion, behind the premises' words.
-use mathlib.Core.Path.{_≡_, refl, sym, ap, subst, _∙_}
-use mathlib.Core.List.{List, [], _++_}
-use Prim.Native.Nat.{ℕ, suc, _+_, _-_, _<_, _≤_}
+use mathlib.Core.Path.{_≡_, refl, ap, _∙_}
+use mathlib.Core.List.{List, _++_}
+use Prim.Native.Nat.{ℕ, _+_, _<_, _≤_}
 use native.Mathlib.Omega.{arith}
-use lib.ListN.{length, getD, drop, replicate, length-append, length-drop, length-replicate, List·getD-append}
+use lib.ListN.{length, getD, replicate, length-append, List·getD-append}
 use lib.Seq.{getD-at}
-use Rattle.definition.specs.Pack.{prop, Term, var, app, Pack, symbolOf, ruleOf}
+use Rattle.definition.specs.Pack.{prop, Term, var, app, Pack, ruleOf}
 use Rattle.definition.specs.Certificate.{count}
-use Rattle.definition.specs.Theory.{variable}
 use Rattle.definition.specs.Good.{Below, Sorted}
 use Rattle.definition.specs.Laws.Prefix.{termWords, termsWords}
 use Rattle.definition.specs.Laws.Grow.{below-at}

@@ -1,24 +1,23 @@
 -- The test for circles in words: a walk over the graph that is held.
 use mathlib.Core.Path.{_≡_, refl, sym, ap, subst, _∙_}
 use mathlib.Core.Bool.{Bool, true, false}
-use mathlib.Core.List.{List, [], _∷_}
+use mathlib.Core.List.{List}
 use mathlib.Core.Option.{none}
-use Prim.Native.Nat.{ℕ, zero, suc, _+_, _*_, _-_, _≤_, _<_}
+use Prim.Native.Nat.{ℕ, suc, _+_, _*_, _-_, _≤_, _<_}
 use native.Mathlib.Omega.{arith}
 use native.Mathlib.Decide.{ℕ-discrete}
 use native.Mathlib.Numerals.{add-one}
 use lib.ListN.{length, getD, set, length-set}
 use lib.Seq.{getD-set-same, getD-set-other}
-use Rattle.definition.specs.Test.{Is, is, see, never}
-use Rattle.definition.specs.Good.{Below}
+use Rattle.definition.specs.Test.{Is, is, see}
 use Rattle.definition.specs.Laws.Grow.{below-at}
-use Rattle.definition.specs.Graph.{Graph, vertex, root, isVar, ends, circular}
+use Rattle.definition.specs.Graph.{Graph, vertex, root, isVar, circular}
 use Rattle.graph.specs.declared.graph.Graph.{Graph as Counts}
 use Rattle.circle.specs.declared.walk.Seen.{Seen}
 use Rattle.circle.specs.declared.walk.Seen.the-variants.{Ends, Deeper, Circle as Met}
 use Rattle.circle.specs.declared.walk.Turn.{Turn}
 use Rattle.circle.specs.declared.walk.Turn.the-variants.{On, Circle}
-use Rattle.graph.specs.Cells.{startIn, linkWord, Laid, Shows, nodes-few}
+use Rattle.graph.specs.Cells.{startIn, Laid, Shows, nodes-few}
 use Rattle.graph.specs.Links.{Holds, Found}
 use Rattle.graph.specs.Nodes.{arity-of, argument-there, end-there, ArityOf, ArgumentOf}
 use Rattle.graph.specs.Inner.{Inner, HoldsInner, many-nodes}

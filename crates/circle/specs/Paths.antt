@@ -6,12 +6,12 @@ use mathlib.Core.Option.{none}
 use Prim.Native.Nat.{ℕ, zero, suc, _+_, _*_, _-_, _≤_, _<_}
 use native.Mathlib.Omega.{arith}
 use native.Mathlib.Decide.{ℕ-discrete}
-use borrow.Author.Tests.{eq-eqb, ne-eqb, eqb-true, eqb-false}
+use borrow.Author.Tests.{eq-eqb, ne-eqb, eqb-true}
 use lib.Dec.{eqb}
 use lib.ListN.{length, getD, set, length-set}
 use lib.Seq.{getD-set-same, getD-set-other}
-use Rattle.definition.specs.Test.{is, see, never, tests, all, _and_, and-parts}
-use Rattle.definition.specs.Graph.{Vertex, Graph, vertex, root, isVar, ends, upTo, circular}
+use Rattle.definition.specs.Test.{is, see, never, all, _and_, and-parts}
+use Rattle.definition.specs.Graph.{Graph, vertex, root, isVar, ends, circular}
 use Rattle.theory.specs.Unification.Forest.{Forest, root-self, root-inside}
 use Rattle.theory.specs.Unification.Acyclic.{ends-more}
 use Rattle.theory.specs.Unification.Circle.{all-upTo, acyclic-ends}

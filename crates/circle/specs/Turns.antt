@@ -1,22 +1,20 @@
 -- The walk's turns over the one table: a node goes on with its arguments, the path is gone through, and all nodes are looked at.
-use mathlib.Core.Path.{_≡_, refl, sym, ap, ap₂, subst, _∙_}
+use mathlib.Core.Path.{_≡_, refl, sym, ap, _∙_}
 use mathlib.Core.Bool.{Bool, true, false}
 use mathlib.Core.List.{List}
-use Prim.Native.Nat.{ℕ, suc, _+_, _*_, _-_, _≤_, _<_}
+use Prim.Native.Nat.{ℕ, _+_, _*_, _-_, _≤_, _<_}
 use native.Mathlib.Omega.{arith}
 use lib.ListN.{length, getD, set, take, drop, replicate}
-use Rattle.definition.specs.Graph.{Graph}
 use Rattle.base.specs.Part.{put}
 use Rattle.buffer.specs.Zero.{zeros-long, zeros-there, zeros-before, zeros-behind}
 use Rattle.graph.specs.declared.graph.Graph.{Graph as Counts}
-use Rattle.graph.specs.Cells.{rowsEnd, Laid, nodes-few, Shows, SameRows, rows-set, shows-rows, laid-rows, Unchanged, unchanged-same, unchanged-then, unchanged-set}
+use Rattle.graph.specs.Cells.{rowsEnd, SameRows, rows-set, shows-rows, unchanged-then, unchanged-set}
 use Rattle.graph.specs.Links.{Found}
 use Rattle.graph.specs.Nodes.{ArityOf}
 use Rattle.graph.specs.Inner.{HoldsInner}
-use Rattle.circle.specs.declared.walk.Turn.{Turn}
-use Rattle.circle.specs.declared.walk.Turn.the-variants.{On, Circle}
+use Rattle.circle.specs.declared.walk.Turn.the-variants.{On}
 use Rattle.circle.specs.Paths.{colourOf, nodeAt, lookedAt}
-use Rattle.circle.specs.Circles.{Enters, few-nodes, as-many, Looking, Walking, Advances, Finishes, Idle, Walks, Tells, Steppings, stepping-first, stepping-done, walking-node, walking-room, walk-again, first-ready, walks-so, Tellings, telling-first}
+use Rattle.circle.specs.Circles.{Enters, few-nodes, as-many, Walking, Finishes, Steppings, stepping-first, stepping-done, walking-node, walking-room, walk-again, first-ready, walks-so, Tellings, telling-first}
 use Rattle.circle.specs.Words.{coloursAt, coloursEnd, pathIn, colourIn, length-path, length-colour, path-at, colour-at, path-kept, colour-set, path-same, colour-same, Beyond, beyond-rows, Entering, EntersIn, WalkingIn, AdvancesIn, FinishesIn, IdleIn, WalksIn, TellsIn, under-rows}
 
 -- ---- `advance`

@@ -1,21 +1,20 @@
 -- Where the walk's words stand: behind the rows the path, where unification has its pairs, and behind that a colour for each node.
-use mathlib.Core.Path.{_≡_, refl, sym, ap, ap₂, subst, _∙_}
+use mathlib.Core.Path.{_≡_, sym, ap, _∙_}
 use mathlib.Core.Bool.{Bool, true, false}
 use mathlib.Core.List.{List}
-use Prim.Native.Nat.{ℕ, suc, _+_, _*_, _-_, _≤_, _<_}
+use Prim.Native.Nat.{ℕ, suc, _+_, _*_, _≤_, _<_}
 use native.Mathlib.Omega.{arith}
 use lib.ListN.{length, getD, set, length-set}
 use Rattle.definition.specs.Graph.{Graph, vertex, isVar}
 use Rattle.base.specs.Part.{part, part-at, length-part, part-same, part-set, part-set-before, part-set-behind}
 use Rattle.graph.specs.declared.graph.Graph.{Graph as Counts}
-use Rattle.graph.specs.Cells.{rowsEnd, Laid, Shows, SameRows, rows-set, rows-then, laid-rows, shows-rows, Unchanged, unchanged-same, unchanged-then, unchanged-later, unchanged-set}
+use Rattle.graph.specs.Cells.{rowsEnd, Laid, Shows, SameRows, rows-set, rows-then, laid-rows, shows-rows, Unchanged, unchanged-then, unchanged-later, unchanged-set}
 use Rattle.graph.specs.Links.{Found}
 use Rattle.graph.specs.Nodes.{ArgumentOf}
 use Rattle.circle.specs.declared.walk.Seen.{Seen}
 use Rattle.circle.specs.declared.walk.Seen.the-variants.{Ends, Deeper, Circle as Met}
 use Rattle.circle.specs.declared.walk.Turn.{Turn}
-use Rattle.circle.specs.declared.walk.Turn.the-variants.{On, Circle}
-use Rattle.circle.specs.Paths.{colourOf, nodeAt, lookedAt}
+use Rattle.circle.specs.Paths.{colourOf}
 use Rattle.circle.specs.Circles.{Enters, enters-variable, enters-application, Under, few-nodes, as-many, Looking, Looks, looks-ends, looks-circle, looks-variable, looks-deeper, Walking, Advances, Finishes, Idle, Walks, Tells}
 
 -- where the colours start, and end

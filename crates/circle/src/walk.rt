@@ -6,7 +6,6 @@ use buffer::zero::zero_words;
 use graph::graph::Graph;
 ghost use Prim.Native.Nat.{_+_, _<_, _≤_};
 ghost use lib.ListN.{length};
-ghost use Rattle.graph.specs.Cells.{Laid};
 ghost use Rattle.graph.specs.Inner.{HoldsInner};
 ghost use Rattle.circle.specs.Words.{coloursEnd, Entering, EntersIn, LookingIn, LooksIn, WalkingIn, AdvancesIn, FinishesIn, IdleIn, WalksIn, TellsIn};
 

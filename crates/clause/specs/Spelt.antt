@@ -1,15 +1,15 @@
 -- Terms whose words are those of a rule from some place on, and passing over them.
-use mathlib.Core.Path.{_≡_, refl, sym, ap, subst, _∙_}
-use mathlib.Core.List.{List, [], _∷_, _++_}
+use mathlib.Core.Path.{_≡_, sym, ap, _∙_}
+use mathlib.Core.List.{List}
 use Prim.Native.Nat.{ℕ, suc, _+_, _-_, _<_, _≤_}
 use native.Mathlib.Omega.{arith}
-use lib.ListN.{length, getD, drop, length-append, length-drop}
-use Rattle.definition.specs.Pack.{Terms, nil, cons, Pack, symbolOf, ruleOf}
+use lib.ListN.{length, getD, length-append, length-drop}
+use Rattle.definition.specs.Pack.{Terms, nil, Pack, symbolOf, ruleOf}
 use Rattle.definition.specs.Certificate.{count}
 use Rattle.definition.specs.Theory.{variable}
-use Rattle.definition.specs.Good.{SortedAll, Good, Few}
+use Rattle.definition.specs.Good.{SortedAll, Good}
 use Rattle.definition.specs.Laws.Prefix.{termWords, termsWords, term-length, terms-length}
-use Rattle.definition.specs.Laws.Suffix.{next, after, Ahead, a-variable, a-symbol, after-sorted, after-words, after-ahead, words-some, no-words, sorts-many, joined-many, none-left}
+use Rattle.definition.specs.Laws.Suffix.{next, after, Ahead, a-variable, a-symbol, after-sorted, after-words, after-ahead, words-some, sorts-many, joined-many, none-left}
 use Rattle.pack.specs.Reads.{ruleWords}
 use Rattle.pack.specs.Held.{Proper}
 

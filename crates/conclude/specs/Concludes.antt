@@ -41,7 +41,7 @@ use Rattle.graph.specs.declared.graph.Pushed.the-variants.{At, Short as Full}
 use Rattle.graph.specs.Cells.{rowsEnd, Shows, nodes-few}
 use Rattle.graph.specs.Pushes.{cells-shown}
 use Rattle.graph.specs.Inner.{many-nodes}
-use Rattle.fresh.specs.Held.{Patterns}
+use Rattle.theory.specs.Copies.Terms.{Patterns}
 use Rattle.instantiate.specs.Building.{Spells, Asked, Instantiates}
 use Rattle.premise.specs.Layout.{placeOf, tableIn, copiesAt, Laid, laid-on, laid-cells}
 use Rattle.premise.specs.Joins.{copiesIn}
@@ -217,7 +217,7 @@ module _ (bytes work words cells : List ℕ) (c : Catalog) (l : Layout) (st : St
       module _ (x : Id) (g₁ : Counts) (work₁ cells₁ : List ℕ) (I : Instantiates bytes work work₁ cells cells₁ c (placeOf l (q .rule) (q .vars)) g env (q .from) to (At x g₁)) (long : length cells₁ ≡ length cells) where
         -- only rows were written
         outside : Outside (l .graph) (l .graph + rowsEnd cells) work work₁
-        outside = record { long = I .0 .long; ahead = I .0 .ahead; behind = I .0 .beyond }
+        outside = I .0
 
         module _ (P : Pack) (t : Term) (h : Graph) (vs : List Bound) (H : Here bytes work words cells c l st g env q P t h vs) where
           -- the graph with it

@@ -7,13 +7,13 @@ use native.Mathlib.Omega.{arith}
 use lib.ListN.{length, getD, set, replicate, length-set, length-replicate}
 use lib.Seq.{getD-set-same, getD-set-other}
 use Rattle.base.specs.Part.{part, put}
+use Rattle.base.specs.Outside.{Outside, outside-then, outside-wider, outside-set}
+use Rattle.base.specs.Lent.{lent-ahead, back, back-at, back-outside}
 use Rattle.memo.specs.Recall.{recall, Remembers}
 use Rattle.memo.specs.declared.memo.Memo.{Memo}
 use Rattle.fresh.specs.declared.node.Copying.{Copying}
 use Rattle.fresh.specs.Held.{tableIn}
-use Rattle.fresh.specs.Steps.{Outside}
 use Rattle.copy.specs.Frames.{Begins}
-use Rattle.fresh.specs.Writes.{outside-then, outside-wider, outside-set, outside-put, back, back-at, part-ahead}
 
 module _ (work flex : List ℕ) (l : Copying) (p : ℕ) (memo : Memo) (up : l .copied ≤ l .walk) (room : l .walk + 2 ≤ l .variables) (fits : l .variables + length flex ≤ length work)
     (table zs : List ℕ) (long : length table ≡ length (tableIn work l)) where
@@ -23,7 +23,7 @@ module _ (work flex : List ℕ) (l : Copying) (p : ℕ) (memo : Memo) (up : l .c
 
   -- beside its table nothing has changed
   O₁ : Outside (l .copied) (l .walk) work first
-  O₁ = outside-put (l .copied) (l .walk) work table up (omega arith) long
+  O₁ = back-outside (l .copied) (l .walk) work table up (omega arith) long
 
   -- where the variables' words end
   abbrev end : ℕ
@@ -48,7 +48,7 @@ module _ (work flex : List ℕ) (l : Copying) (p : ℕ) (memo : Memo) (up : l .c
 
     -- beside these words nothing has changed
     O₂ : Outside (l .variables) end first second
-    O₂ = outside-put (l .variables) end first zs (omega arith) second-fits long-zs
+    O₂ = back-outside (l .variables) end first zs (omega arith) second-fits long-zs
 
     -- nothing is longer or shorter
     pub third-long : length third ≡ length work
@@ -56,13 +56,13 @@ module _ (work flex : List ℕ) (l : Copying) (p : ℕ) (memo : Memo) (up : l .c
 
     -- beside the frame nothing has changed
     O₃ : Outside (l .walk) (l .walk + 2) second third
-    O₃ = outside-then (l .walk) (l .walk + 2) second (set second (l .walk) p) third (outside-set (l .walk) (l .walk + 2) (l .walk) p second (omega arith) (omega arith)) (outside-set (l .walk) (l .walk + 2) (l .walk + 1) 0 (set second (l .walk) p) (omega arith) (omega arith))
+    O₃ = outside-then (l .walk) (l .walk + 2) second (set second (l .walk) p) third (outside-set (l .walk) (l .walk + 2) second (l .walk) p (omega arith) (omega arith)) (outside-set (l .walk) (l .walk + 2) (set second (l .walk) p) (l .walk + 1) 0 (omega arith) (omega arith))
 
     -- the memo's table stands there still
     table-there : tableIn third l ≡ table
     table-there =
-        part-ahead (l .walk) (l .walk + 2) (l .copied) (l .walk) second third O₃ (omega arith) (omega (arith, O₂ .long, O₁ .long)) up
-        ∙ part-ahead (l .variables) end (l .copied) (l .walk) first second O₂ (omega arith) (omega (arith, O₁ .long)) up
+        lent-ahead (l .walk) (l .walk + 2) second third O₃ (l .copied) (l .walk) up (omega arith) (omega (arith, O₂ .long, O₁ .long))
+        ∙ lent-ahead (l .variables) end first second O₂ (l .copied) (l .walk) up (omega arith) (omega (arith, O₁ .long))
         ∙ back (l .copied) (l .walk) work table up (omega arith) long
 
     -- so a copy begins

@@ -11,17 +11,20 @@ use Rattle.definition.specs.Analysis.{copied, Copy}
 use Rattle.theory.specs.Copies.Parts.{kidsIn}
 use Rattle.theory.specs.Walks.Machine.{Walking, turn, left}
 use Rattle.theory.specs.Walks.CopyWalk.{isCopied, copyAt}
+use Rattle.base.specs.Outside.{Outside}
 use Rattle.store.specs.Words.{nodeWith}
 use Rattle.store.specs.Stored.{nodes}
 use Rattle.memo.specs.Recall.{Remembers}
 use Rattle.store.specs.declared.nodes.Store.{Store}
 use Rattle.memo.specs.declared.memo.Memo.{Memo}
 use Rattle.fresh.specs.declared.node.Copying.{Copying}
-use Rattle.fresh.specs.declared.node.Turn.{Turn}
-use Rattle.fresh.specs.declared.node.Turn.the-variants as turns
+use Rattle.copy.specs.declared.walk.Turn.{Turn}
+use Rattle.copy.specs.declared.walk.Turn.the-variants as turns
 use Rattle.graph.specs.declared.graph.Graph.{Graph as Counts}
-use Rattle.fresh.specs.Held.{tableIn, Patterns, marksIn, valueIn, Holding, framesIn, Going, Beside}
-use Rattle.fresh.specs.Steps.{Outside, noted}
+use Rattle.fresh.specs.Held.{tableIn, valueIn, Beside}
+use Rattle.theory.specs.Copies.Terms.{Patterns}
+use Rattle.graph.specs.Cells.{marksIn}
+use Rattle.copy.specs.Held.{Holding, framesIn, Going}
 
 -- the frame at `at`, and room above it if an argument is left to it
 pub record Deeper (work : List ℕ) (at : ℕ) (key : List ℕ) : Type 0 where

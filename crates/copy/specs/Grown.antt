@@ -15,27 +15,29 @@ use Rattle.definition.specs.Store.{isVariable, variableHead, below}
 use Rattle.definition.specs.Good.{Below}
 use Rattle.definition.specs.Laws.Grow.{below-more}
 use Rattle.definition.specs.Verdict.{Bound, valueOf}
-use Rattle.definition.specs.Graph.{Vertex, Graph, applied, cells, push}
+use Rattle.definition.specs.Graph.{Vertex, applied, cells, push}
 use Rattle.definition.specs.Analysis.{copied, Copy, pairing, copyNode}
 use Rattle.definition.specs.Classes.{isSome}
-use Rattle.theory.specs.Copies.Terms.{below-applied}
+use Rattle.theory.specs.Copies.Terms.{below-applied, Patterns}
 use Rattle.theory.specs.Copies.Parts.{kidsIn, kids-inside}
 use Rattle.theory.specs.Copies.Copying.{valueOf-new, valueOf-old, looked, newest, older}
 use Rattle.theory.specs.Walks.Walk.{Known}
 use Rattle.theory.specs.Walks.Memo.{has, has-value}
 use Rattle.theory.specs.Walks.CopyWalk.{isCopied, copyAt}
 use Rattle.base.specs.Part.{part, part-same, length-part}
+use Rattle.base.specs.Outside.{Outside}
+use Rattle.base.specs.Lent.{lent-ahead, lent-behind}
 use Rattle.store.specs.Words.{keyOf, words-most, begins-long}
 use Rattle.store.specs.Stored.{Stored, nodes}
 use Rattle.memo.specs.Recall.{recall, length-recall, Remembers}
 use Rattle.store.specs.declared.nodes.Store.{Store}
 use Rattle.memo.specs.declared.memo.Memo.{Memo}
-use Rattle.graph.specs.Cells.{Shows, cells-more}
+use Rattle.graph.specs.Cells.{Shows, cells-more, marksIn}
 use Rattle.graph.specs.Inner.{inner-more}
 use Rattle.fresh.specs.declared.node.Copying.{Copying}
-use Rattle.fresh.specs.Held.{indexIn, tableIn, rowsAt, rowsIn, Apart, Room, Patterns, marksIn, valueIn, orZero, copyIn, wordOf, Holding, Beside}
-use Rattle.fresh.specs.Steps.{Outside, noted, vertexFor, numberFor, Key, Finished, Unfinished}
-use Rattle.fresh.specs.Writes.{part-ahead, part-after}
+use Rattle.copy.specs.Held.{indexIn, Room, wordOf, Holding}
+use Rattle.fresh.specs.Held.{tableIn, rowsAt, rowsIn, Apart, valueIn, orZero, copyIn, Beside}
+use Rattle.fresh.specs.Steps.{noted, vertexFor, numberFor, Key, CopiedTo, NoRoom}
 use Rattle.base.specs.declared.id.Node.{Node as Id}
 use Rattle.graph.specs.declared.graph.Graph.{Graph as Counts}
 
@@ -76,9 +78,9 @@ module _ (work words cells flex : List ℕ) (l : Copying) (st : Store) (memo : M
 pub holding-stack : (work work′ words cells flex : List ℕ) (l : Copying) (st : Store) (memo : Memo) (g : Counts) (c : Copy) → Holding work words cells flex l st memo g c → Outside (l .walk) (l .variables) work work′ → Holding work′ words cells flex l st memo g c
 holding-stack work work′ words cells flex l st memo g c H O =
     let A = H .apart in
-    let i : indexIn work′ l ≡ indexIn work l = part-ahead (l .walk) (l .variables) (l .index) (l .copied) work work′ O (A .table) (omega (arith, A .table, A .stack, A .marks, A .rows)) (A .index) in
-    let t : tableIn work′ l ≡ tableIn work l = part-ahead (l .walk) (l .variables) (l .copied) (l .walk) work work′ O (omega arith) (omega (arith, A .stack, A .marks, A .rows)) (A .table) in
-    let r : rowsIn work′ cells l ≡ rowsIn work cells l = part-after (l .walk) (l .variables) (l .graph) (rowsAt cells l) work work′ O (omega (arith, A .marks)) (A .rows) (omega arith) in
+    let i : indexIn work′ l ≡ indexIn work l = lent-ahead (l .walk) (l .variables) work work′ O (l .index) (l .copied) (A .index) (A .table) (omega (arith, A .table, A .stack, A .marks, A .rows)) in
+    let t : tableIn work′ l ≡ tableIn work l = lent-ahead (l .walk) (l .variables) work work′ O (l .copied) (l .walk) (A .table) (omega arith) (omega (arith, A .stack, A .marks, A .rows)) in
+    let r : rowsIn work′ cells l ≡ rowsIn work cells l = lent-behind (l .walk) (l .variables) work work′ O (l .graph) (rowsAt cells l) (omega arith) (omega (arith, A .marks)) (A .rows) in
     record {
       apart = record { index = A .index; table = A .table; stack = A .stack; marks = A .marks; rows = omega (arith, A .rows, O .long) };
       room = H .room;
@@ -170,11 +172,11 @@ module _ (work words cells₀ flex : List ℕ) (l : Copying) (st : Store) (memo 
     ]
 
     -- there is no room for it
-    pub short-more : (work′ cells′ : List ℕ) → Unfinished work work′ cells₀ cells′ flex l memo g (keyOf m) → length cells₀ < cells (copyAt (nodes words st) (marksIn flex) p c .graph)
+    pub short-more : (work′ cells′ : List ℕ) → NoRoom work work′ cells₀ cells′ flex l memo g (keyOf m) → length cells₀ < cells (copyAt (nodes words st) (marksIn flex) p c .graph)
     short-more work′ cells′ F = let e = ap (λ (d : Copy). cells (d .graph)) copy-grown in omega (arith, F .0 (c .graph) (H .shows), cells-more (c .graph) w)
 
     -- it is held
-    module _ (work′ cells′ : List ℕ) (x : Id) (g′ : Counts) (F : Finished work work′ cells₀ cells′ flex l memo g p (keyOf m) x g′) (long : length cells′ ≡ length cells₀) (given : p < length (nodes words st)) (k : Known isCopied c (kidsIn (nodes words st) p)) where
+    module _ (work′ cells′ : List ℕ) (x : Id) (g′ : Counts) (F : CopiedTo work work′ cells₀ cells′ flex l memo g p (keyOf m) x g′) (long : length cells′ ≡ length cells₀) (given : p < length (nodes words st)) (k : Known isCopied c (kidsIn (nodes words st) p)) where
       -- what was written is apart
       abbrev B : Beside work work′ cells₀ l
       B = F .1 .beside

@@ -16,18 +16,21 @@ use Rattle.theory.specs.Copies.Parts.{kidsIn, kids-fall, kids-inside}
 use Rattle.theory.specs.Walks.Machine.{Frame, frame, left, turn-kept, left-none}
 use Rattle.theory.specs.Walks.WalkOnce.{unfinished}
 use Rattle.theory.specs.Walks.CopyWalk.{isCopied, copyAt, copy-made, copy-others}
+use Rattle.base.specs.Outside.{outside-none}
 use Rattle.store.specs.Stored.{nodes}
 use Rattle.memo.specs.Recall.{recall}
 use Rattle.store.specs.declared.nodes.Store.{Store}
 use Rattle.memo.specs.declared.memo.Memo.{Memo}
 use Rattle.fresh.specs.declared.node.Copying.{Copying}
-use Rattle.fresh.specs.declared.node.Turn.the-variants as turns
-use Rattle.fresh.specs.Held.{tableIn, Patterns, marksIn, Holding, framesIn, Going, Ready, Beside}
+use Rattle.copy.specs.declared.walk.Turn.the-variants as turns
+use Rattle.fresh.specs.Held.{tableIn, rowsAt, Beside}
+use Rattle.theory.specs.Copies.Terms.{Patterns}
+use Rattle.graph.specs.Cells.{marksIn, cells-more}
+use Rattle.copy.specs.Held.{Holding, framesIn, Going, Ready}
 use Rattle.copy.specs.Frames.{turnOf, leftOf, Advances, Runs}
-use Rattle.graph.specs.Cells.{cells-more}
 use Rattle.copy.specs.Grown.{copied-is}
 use Rattle.copy.specs.Turns.{length-frames}
-use Rattle.copy.specs.Ways.{beside-none, beside-then}
+use Rattle.copy.specs.Ways.{beside-then}
 use Rattle.copy.specs.Measure.{took, unfinished-same, most, turn-less, left-grows}
 use Rattle.graph.specs.declared.graph.Graph.{Graph as Counts}
 
@@ -91,7 +94,7 @@ pub record Loops (work₀ work words cells₀ cells flex : List ℕ) (l : Copyin
 
 -- before the first turn
 pub loops-first : (work words cells₀ flex : List ℕ) (l : Copying) (st : Store) (memo : Memo) (g : Counts) → Loops work work words cells₀ cells₀ flex l st memo g g 1
-loops-first work words cells₀ flex l st memo g = record { long = refl; beside = beside-none work cells₀ l; runs = λ P c G. record { state = c; going = G; rest = refl } }
+loops-first work words cells₀ flex l st memo g = record { long = refl; beside = outside-none (l .copied) (rowsAt cells₀ l) work; runs = λ P c G. record { state = c; going = G; rest = refl } }
 
 module _ (work₀ work words cells₀ cells₁ flex : List ℕ) (l : Copying) (st : Store) (memo : Memo) (g₀ g : Counts) where
   -- with a frame left

@@ -9,7 +9,7 @@ use borrow.Author.Tests.{lt-ltb, le-ltb}
 use lib.Dec.{eqb}
 use lib.ListN.{length, getD, set, length-set}
 use lib.Seq.{getD-set-same, getD-set-other}
-use Rattle.definition.specs.Test.{is, _and_}
+use Rattle.definition.specs.Test.{_and_}
 use Rattle.definition.specs.Pack.{Node, noNode}
 use Rattle.definition.specs.Analysis.{Copy}
 use Rattle.definition.specs.Classes.{isSome}
@@ -18,16 +18,19 @@ use Rattle.theory.specs.Walks.Walk.{Known}
 use Rattle.theory.specs.Walks.Machine.{Frame, frame, Walking, walking, turn, Stacked, height, turn-kept}
 use Rattle.theory.specs.Walks.WalkReady.{Sound, turn-going}
 use Rattle.theory.specs.Walks.CopyWalk.{isCopied, copyAt, copy-made, copy-others}
+use Rattle.base.specs.Outside.{Outside, outside-then, outside-set}
 use Rattle.store.specs.Words.{keyOf}
 use Rattle.store.specs.Stored.{nodes}
 use Rattle.memo.specs.Recall.{recall}
 use Rattle.store.specs.declared.nodes.Store.{Store}
 use Rattle.memo.specs.declared.memo.Memo.{Memo}
 use Rattle.fresh.specs.declared.node.Copying.{Copying}
-use Rattle.fresh.specs.Held.{tableIn, Patterns, marksIn, valueIn, Holding, framesIn, Going}
-use Rattle.fresh.specs.Steps.{Outside, Key}
+use Rattle.fresh.specs.Held.{tableIn, valueIn}
+use Rattle.theory.specs.Copies.Terms.{Patterns}
+use Rattle.graph.specs.Cells.{marksIn}
+use Rattle.copy.specs.Held.{Holding, framesIn, Going}
+use Rattle.fresh.specs.Steps.{Key}
 use Rattle.copy.specs.Frames.{turnOf}
-use Rattle.fresh.specs.Writes.{outside-then, outside-set}
 use Rattle.copy.specs.Grown.{nodes-most, memo-room, key-copied, copied-is}
 use Rattle.graph.specs.declared.graph.Graph.{Graph as Counts}
 
@@ -57,8 +60,8 @@ module _ (work : List ℕ) (a top q taken : ℕ) where
       let one = set work (a + 2 * top + 1) (taken + 1) in
       let two = set one (a + 2 * top + 2) q in
       outside-then a b work two entering
-      (outside-then a b work one two (outside-set a b (a + 2 * top + 1) (taken + 1) work (omega arith) (omega arith)) (outside-set a b (a + 2 * top + 2) q one (omega arith) (omega arith)))
-      (outside-set a b (a + 2 * top + 3) 0 two (omega arith) (omega arith))
+      (outside-then a b work one two (outside-set a b work (a + 2 * top + 1) (taken + 1) (omega arith) (omega arith)) (outside-set a b one (a + 2 * top + 2) q (omega arith) (omega arith)))
+      (outside-set a b two (a + 2 * top + 3) 0 (omega arith) (omega arith))
 
   -- the frames then
   pub entering-frames : a + 2 * top + 3 < length work → framesIn entering a (suc (suc top)) ≡ frame q 0 ∷ frame (getD work (a + 2 * top) 0) (suc taken) ∷ framesIn work a top

@@ -16,32 +16,33 @@ use Rattle.definition.specs.Analysis.{Copy}
 use Rattle.definition.specs.Classes.{isSome}
 use Rattle.theory.specs.Copies.Terms.{below-variable, below-applied}
 use Rattle.theory.specs.Copies.Parts.{kidsIn}
-use Rattle.theory.specs.Walks.Machine.{frame, Walking, turn}
+use Rattle.theory.specs.Walks.Machine.{frame, Walking}
 use Rattle.theory.specs.Walks.CopyWalk.{copyAt}
+use Rattle.base.specs.Outside.{outside-none, outside-then, outside-wider}
+use Rattle.base.specs.declared.id.Node.{Node as Id}
 use Rattle.store.specs.Words.{keyOf, nodeWith}
 use Rattle.store.specs.Stored.{nodes}
-use Rattle.memo.specs.Recall.{recall}
+use Rattle.memo.specs.Recall.{recall, Remembers}
 use Rattle.store.specs.declared.nodes.Store.{Store}
 use Rattle.memo.specs.declared.memo.Memo.{Memo}
 use Rattle.fresh.specs.declared.node.Copying.{Copying}
-use Rattle.fresh.specs.declared.node.Turn.the-variants as turns
-use Rattle.memo.specs.Recall.{Remembers}
+use Rattle.copy.specs.declared.walk.Turn.the-variants as turns
 use Rattle.graph.specs.Links.{Holds}
-use Rattle.fresh.specs.declared.node.Turn.{Turn}
-use Rattle.fresh.specs.Held.{tableIn, rowsIn, Apart, marksIn, valueIn, framesIn, Ready, Beside}
-use Rattle.fresh.specs.Steps.{Finished, Unfinished, Finishes, Key}
+use Rattle.graph.specs.declared.graph.Pushed.{Pushed}
+use Rattle.graph.specs.declared.graph.Pushed.the-variants as pushed
+use Rattle.copy.specs.declared.walk.Turn.{Turn}
+use Rattle.fresh.specs.Held.{tableIn, rowsAt, rowsIn, Apart, valueIn, Beside}
+use Rattle.graph.specs.Cells.{marksIn}
+use Rattle.copy.specs.Held.{framesIn, Ready}
+use Rattle.fresh.specs.Steps.{CopiesNode, Key}
 use Rattle.copy.specs.Frames.{Deeper, Deepens, Advances}
 use Rattle.copy.specs.Grown.{holding-stack, short-more, holding-more}
 use Rattle.copy.specs.Turns.{turn-inside, turn-known, turn-key, frames-same, entering, entering-outside, entering-frames, turn-room, turn-given, going-on, dropped, entered, finished, entered-room, all-known}
 use Rattle.graph.specs.declared.graph.Graph.{Graph as Counts}
 
--- nothing was written
-pub beside-none : (work cells : List ℕ) (l : Copying) → Beside work work cells l
-beside-none work cells l = record { long = refl; ahead = λ i h. refl; beyond = λ i h. refl }
-
 -- one thing written after another
 pub beside-then : (work mid work′ cells cells′ : List ℕ) (l : Copying) → length cells′ ≡ length cells → Beside work mid cells l → Beside mid work′ cells′ l → Beside work work′ cells l
-beside-then work mid work′ cells cells′ l e A B = record { long = B .long ∙ A .long; ahead = λ i h. B .ahead i h ∙ A .ahead i h; beyond = λ i h. B .beyond i (omega (arith, e)) ∙ A .beyond i h }
+beside-then work mid work′ cells cells′ l e A B = outside-then (l .copied) (rowsAt cells l) work mid work′ A (outside-wider (l .copied) (rowsAt cells′ l) (l .copied) (rowsAt cells l) mid work′ (omega arith) (omega (arith, e)) B)
 
 module _ (work words cells₀ flex : List ℕ) (l : Copying) (st : Store) (memo : Memo) (g : Counts) (top : ℕ) where
   -- the store's nodes
@@ -84,7 +85,7 @@ module _ (work words cells₀ flex : List ℕ) (l : Copying) (st : Store) (memo 
   pub advance-passed : (b : Bool) → b ≡ (eqb taken 0 and isSome (valueIn work l memo p)) → b ≡ true → Advances work work words cells₀ cells₀ flex l st memo g top (turns.On top g)
   advance-passed b e t = (
     λ P c G. going-on work words cells₀ flex l st memo g top P c G work cells₀ g top (framesIn work (l .walk) top) c (dropped work words cells₀ flex l st memo g top P c G b e t) (G .holds) refl,
-    beside-none work cells₀ l,
+    outside-none (l .copied) (rowsAt cells₀ l) work,
   )
 
   -- it stays
@@ -139,7 +140,7 @@ module _ (work words cells₀ flex : List ℕ) (l : Copying) (st : Store) (memo 
                 (entered work words cells₀ flex l st memo g top P c G b e f left-over)
                 (holding-stack work (entering work (l .walk) top q taken) words cells₀ flex l st memo g c (G .holds) O)
                 (ap (framesIn (entering work (l .walk) top q taken) (l .walk)) two ∙ entering-frames work (l .walk) top q taken enter-inside ∙ ap (λ (i : ℕ). frame i 0 ∷ frame p (suc taken) ∷ framesIn work (l .walk) top) next-is),
-            record { long = O .long; ahead = λ i m. O .before i (omega (arith, A .table)); beyond = λ i m. O .behind i (omega (arith, A .marks)) },
+            outside-wider (l .walk) (l .variables) (l .copied) (rowsAt cells₀ l) work _ (A .table) (omega (arith, A .marks)) O,
           )
 
     -- what looking for one asks
@@ -178,24 +179,32 @@ module _ (work words cells₀ flex : List ℕ) (l : Copying) (st : Store) (memo 
             let H = R .2 .holds in
             subst Ripe (sym (D₂ .1)) (H .apart, (R .1 .graph, H .shows), ready-key R key K, H .remembers, ready-known R)
 
-        -- that is a turn, too
-        pub advance-finished : (work′ cells′ : List ℕ) → length cells′ ≡ length cells₀ → (r : Turn) → Finishes work₁ work′ cells₀ cells′ flex l memo g p key top r → Advances work work′ words cells₀ cells′ flex l st memo g top r
-        advance-finished work′ cells′ long (turns.On k g′) F₀ =
-            let F₁ = subst (λ (xs : List ℕ). Finishes xs work′ cells₀ cells′ flex l memo g p key top (turns.On k g′)) (D₂ .1) F₀ in
-            let x = F₁ .1 in
-            let F = subst (λ (xs : List ℕ). Finished work work′ cells₀ cells′ flex l memo g p xs x g′) K (F₁ .2) in
-            let room = turn-room work words cells₀ flex l st memo g top (R .0) (R .1) (R .2) in
-            subst (λ (i : ℕ). Advances work work′ words cells₀ cells′ flex l st memo g top (turns.On i g′)) (sym (F₁ .0)) (
-              λ P c G. going-on work words cells₀ flex l st memo g top P c G work′ cells′ g′ top (framesIn work (l .walk) top) (copyAt s (marksIn flex) p c)
-                  (finished work words cells₀ flex l st memo g top P c G b e f none-left)
-                  (holding-more work words cells₀ flex l st memo g c (G .holds) p work′ cells′ x g′ F long (turn-given work words cells₀ flex l st memo g top P c G) (all-known work words cells₀ flex l st memo g top P c G b e f none-left))
-                  (frames-same work work′ (l .walk) top (λ i a m. F .1 .stack i a (omega (arith, room, R .2 .holds .room .stack)))),
-              F .1 .beside,
-            )
-        advance-finished work′ cells′ long turns.Short F₀ =
-            let F = subst (λ (xs : List ℕ). Unfinished work work′ cells₀ cells′ flex l memo g xs) K (subst (λ (xs : List ℕ). Unfinished xs work′ cells₀ cells′ flex l memo g key) (D₂ .1) F₀) in (
-              λ P c G.
-                  let w = ap (λ (v : Walking Copy). cells (v .state .graph)) (finished work words cells₀ flex l st memo g top P c G b e f none-left) in
-                  omega (arith, w, short-more work words cells₀ flex l st memo g c (G .holds) p work′ cells′ F),
-              F .1 .beside,
-            )
+        -- its pattern's copy is made: that is a turn, too
+        module _ (work′ cells′ : List ℕ) (long : length cells′ ≡ length cells₀) (r : Pushed) (C : CopiesNode work₁ work′ cells₀ cells′ flex l memo g p key r) where
+          -- what was answered
+          made : (q : Pushed) → r ≡ q → CopiesNode work work′ cells₀ cells′ flex l memo g p (keyOf n) q
+          made q h =
+              let D = subst (λ (o : Pushed). CopiesNode work₁ work′ cells₀ cells′ flex l memo g p key o) h C in
+              subst (λ (xs : List ℕ). CopiesNode work work′ cells₀ cells′ flex l memo g p xs q) K (subst (λ (xs : List ℕ). CopiesNode xs work′ cells₀ cells′ flex l memo g p key q) (D₂ .1) D)
+
+          -- there was room
+          pub advance-copied : (x : Id) (g′ : Counts) → r ≡ pushed.At x g′ → Advances work work′ words cells₀ cells′ flex l st memo g top (turns.On top g′)
+          advance-copied x g′ h =
+              let F = made (pushed.At x g′) h in
+              let room = turn-room work words cells₀ flex l st memo g top (R .0) (R .1) (R .2) in (
+                λ P c G. going-on work words cells₀ flex l st memo g top P c G work′ cells′ g′ top (framesIn work (l .walk) top) (copyAt s (marksIn flex) p c)
+                    (finished work words cells₀ flex l st memo g top P c G b e f none-left)
+                    (holding-more work words cells₀ flex l st memo g c (G .holds) p work′ cells′ x g′ F long (turn-given work words cells₀ flex l st memo g top P c G) (all-known work words cells₀ flex l st memo g top P c G b e f none-left))
+                    (frames-same work work′ (l .walk) top (λ i a m. F .1 .stack i a (omega (arith, room, R .2 .holds .room .stack)))),
+                F .1 .beside,
+              )
+
+          -- there was none
+          pub advance-short : r ≡ pushed.Short → Advances work work′ words cells₀ cells′ flex l st memo g top turns.Short
+          advance-short h =
+              let F = made pushed.Short h in (
+                λ P c G.
+                    let w = ap (λ (v : Walking Copy). cells (v .state .graph)) (finished work words cells₀ flex l st memo g top P c G b e f none-left) in
+                    omega (arith, w, short-more work words cells₀ flex l st memo g c (G .holds) p work′ cells′ F),
+                F .1 .beside,
+              )

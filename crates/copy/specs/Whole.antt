@@ -15,19 +15,20 @@ use Rattle.theory.specs.Walks.Machine.{Frame, frame, Stacked, left, left-new, l
 use Rattle.theory.specs.Walks.WalkReady.{Sound, sound-new}
 use Rattle.theory.specs.Walks.CopyWalk.{noCopy, isCopied, copyAt, copy-made, copy-others, copy-walk}
 use Rattle.base.specs.Part.{part, part-at, length-part}
+use Rattle.base.specs.Lent.{lent-ahead}
 use Rattle.store.specs.Stored.{Stored, nodes}
 use Rattle.memo.specs.Recall.{recall}
 use Rattle.store.specs.declared.nodes.Store.{Store}
 use Rattle.memo.specs.declared.memo.Memo.{Memo}
-use Rattle.graph.specs.Cells.{restAt, startIn, Shows, rowsEnd, nodes-few, graph-kept}
+use Rattle.graph.specs.Cells.{restAt, startIn, Shows, rowsEnd, nodes-few, graph-kept, marksIn}
 use Rattle.graph.specs.Inner.{Inner}
 use Rattle.fresh.specs.declared.node.Copying.{Copying}
-use Rattle.fresh.specs.declared.node.Turn.{Turn}
-use Rattle.fresh.specs.declared.node.Turn.the-variants as turns
-use Rattle.fresh.specs.declared.node.Copied.the-variants as answers
-use Rattle.fresh.specs.Held.{indexIn, tableIn, rowsAt, rowsIn, graphIn, copyIn, marksIn, Apart, Given, Holding, Going, Ready, framesIn, Beside, Copies}
+use Rattle.copy.specs.declared.walk.Turn.{Turn}
+use Rattle.copy.specs.declared.walk.Turn.the-variants as turns
+use Rattle.copy.specs.declared.walk.Copied.the-variants as answers
+use Rattle.copy.specs.Held.{indexIn, graphIn, Given, Holding, Going, Ready, framesIn, Copies}
+use Rattle.fresh.specs.Held.{tableIn, rowsAt, rowsIn, copyIn, Apart, Beside}
 use Rattle.copy.specs.Frames.{leftOf, Runs, Begins}
-use Rattle.fresh.specs.Writes.{part-ahead}
 use Rattle.copy.specs.Grown.{copy-is, memo-room}
 use Rattle.base.specs.declared.id.Node.{Node as Id}
 use Rattle.graph.specs.declared.graph.Graph.{Graph as Counts}
@@ -69,7 +70,7 @@ module _ (work words cells₀ flex : List ℕ) (l : Copying) (st : Store) (memo 
     first-held =
         let A = apart in
         let O = B .outside in
-        let i : indexIn work₁ l ≡ indexIn work l = part-ahead (l .copied) (l .variables + length flex) (l .index) (l .copied) work work₁ O (omega arith) (omega (arith, A .table, A .stack, A .marks, A .rows)) (A .index) in
+        let i : indexIn work₁ l ≡ indexIn work l = lent-ahead (l .copied) (l .variables + length flex) work work₁ O (l .index) (l .copied) (A .index) (omega arith) (omega (arith, A .table, A .stack, A .marks, A .rows)) in
         record {
           apart = record { index = A .index; table = A .table; stack = A .stack; marks = A .marks; rows = omega (arith, A .rows, O .long) };
           room = record { table = Y .laid .table; stack = Y .laid .stack };
@@ -124,7 +125,7 @@ module _ (work words cells₀ flex : List ℕ) (l : Copying) (st : Store) (memo 
     beside-both : Beside work₁ work₂ cells₀ l → Beside work work₂ cells₀ l
     beside-both N =
         let O = B .outside in
-        record { long = N .long ∙ O .long; ahead = λ i a. N .ahead i a ∙ O .before i a; beyond = λ i a. N .beyond i a ∙ O .behind i (omega (arith, Y .laid .marks)) }
+        record { long = N .long ∙ O .long; ahead = λ i a. N .ahead i a ∙ O .ahead i a; behind = λ i a. N .behind i a ∙ O .behind i (omega (arith, Y .laid .marks)) }
 
     -- there was no room
     pub copies-short : (r : Turn) → r ≡ turns.Short → Runs work₁ work₂ words cells₀ cells₂ flex l st fresh g 1 r → Copies work work₂ words cells₀ cells₂ flex l st g p answers.Short

@@ -2,24 +2,56 @@
 use base::id::Node;
 use base::id::Pattern;
 use buffer::zero::zero_words;
-use fresh::node::Copied;
 use fresh::node::Copying;
-use fresh::node::Turn;
+use fresh::node::copy_node;
 use fresh::node::copy_of;
-use fresh::node::finish;
-use fresh::node::passes;
 use graph::graph::Graph;
+use graph::graph::Pushed;
+use memo::memo::Known;
 use memo::memo::Memo;
 use store::nodes::Store;
 ghost use mathlib.Core.Path.{_≡_};
 ghost use Prim.Native.Nat.{suc, _+_, _-_, _*_, _≤_, _<_};
-ghost use lib.ListN.{length};
+ghost use lib.Dec.{eqb};
+ghost use lib.ListN.{length, getD};
+ghost use Rattle.definition.specs.Test.{_and_};
 ghost use Rattle.definition.specs.Store.{below};
+ghost use Rattle.definition.specs.Classes.{isSome};
 ghost use Rattle.store.specs.Words.{nodeWith};
 ghost use Rattle.store.specs.Stored.{nodes};
-ghost use Rattle.memo.specs.Recall.{Remembers};
-ghost use Rattle.fresh.specs.Held.{tableIn, Ready, Given, Copies};
+ghost use Rattle.memo.specs.Recall.{recall, Remembers};
+ghost use Rattle.fresh.specs.Held.{tableIn, valueIn};
+ghost use Rattle.copy.specs.Held.{Ready, Given, Copies};
 ghost use Rattle.copy.specs.Frames.{Deeper, Deepens, Advances, Runs, Begins};
+
+// The node that the pattern was copied to, the graph with it and the memo as it is then; or that the cells have no room.
+pub enum Copied {
+    At(Node, Graph, Memo),
+    Short,
+}
+
+// So many frames stand on the stack, and the graph as it is then; or the cells have no room.
+pub enum Turn {
+    On(usize, Graph),
+    Short,
+}
+
+// Whether the frame at `at` is new and its pattern was copied before.
+fn passes(work: &[u32], l: Copying, memo: Memo, at: usize) -> bool
+    requires { ⌜ (l .copied ≤ l .walk) × (l .walk ≤ length (now work)) × (at + 1 < length (now work)) × (getD (now work) at 0 < length (recall (tableIn (now work) l) memo)) ⌝ }
+    ensures { λ r. ⌜ r ≡ (eqb (getD (now (work .entry)) (at + 1) 0) 0 and isSome (valueIn (now (work .entry)) l memo (getD (now (work .entry)) at 0))) ⌝ }
+{
+    if work[at + 1] != 0 {
+        return false;
+    }
+    let p = work[at];
+    let from = l.copied;
+    let to = l.walk;
+    match memo.get(&work[from..to], p as usize) {
+        Known::Value(_) => true,
+        Known::Nothing => false,
+    }
+}
 
 // How many pattern nodes stand below the node with a key.
 fn kids(key: &[u32]) -> usize
@@ -74,7 +106,10 @@ fn advance(
     if deepen(work, at, key) {
         return Turn::On(top + 2, g);
     }
-    finish(work, cells, l, memo, g, flex, p, key, top)
+    match copy_node(work, cells, l, memo, g, flex, p, key) {
+        Pushed::At(_, h) => Turn::On(top, h),
+        Pushed::Short => Turn::Short,
+    }
 }
 
 // The turns from one frame on until none is left.

@@ -8,6 +8,7 @@ use Rattle.definition.specs.Pack.{Node}
 use Rattle.definition.specs.Store.{Stored, intern, patternWords}
 use Rattle.theory.specs.Patterns.Interned.{Grows, interned}
 use Rattle.theory.specs.Walks.Again.{stored, headed}
+use Rattle.base.specs.Outside.{outside-then}
 use Rattle.store.specs.Words.{nodeWith}
 use Rattle.store.specs.Stored.{nodes, written}
 use Rattle.store.specs.declared.nodes.Store.{Store}
@@ -21,7 +22,7 @@ use Rattle.lift.specs.Runs.{written-again, words-grow}
 use Rattle.lift.specs.declared.walk.Lifted.{Lifted}
 use Rattle.table.specs.Kept.{Interns}
 use Rattle.kept.specs.Interns.{cutTop}
-use Rattle.cut.specs.Fresh.{variablesOf, Freshened, Unfreshened, apart-both}
+use Rattle.cut.specs.Fresh.{variablesOf, Freshened, Unfreshened}
 
 -- the conclusion is there: the definition's number and store, with its words written
 pub record Concluded (bytes work words work′ words′ : List ℕ) (c : Catalog) (l : Lifted) (st : Store) (p : ℕ) (q : Pattern) (st′ : Store) : Type 0 where
@@ -75,7 +76,7 @@ module _ (bytes work words work₁ words₁ : List ℕ) (c : Catalog) (l : Lifte
     pub concludes : (r : Interned) → Interns work₁ words₁ work′ words′ l st₁ (take (n + 1 - 0) (drop 0 key)) r → Concludes bytes work words work′ words′ c l st p r
     concludes Short A = record {
       short = λ P R Q. omega (arith, A .0, long, ap (λ (o : Stored). length (patternWords (o .store))) (interned-is P R Q));
-      apart = apart-both work work₁ work′ l (F .apart) (A .1);
+      apart = outside-then (l .at) (l .end) work work₁ work′ (F .apart) (A .1);
     }
     concludes (Id q st′) A =
         let g : Grows (nodes words₁ st₁) (nodes words′ st′) = subst (Grows (nodes words₁ st₁)) (ap (λ (o : Stored). o .store) (A .1)) (interned (nodes words₁ st₁) (nodeWith (take (n + 1 - 0) (drop 0 key))) .grows) in
@@ -83,5 +84,5 @@ module _ (bytes work words work₁ words₁ : List ℕ) (c : Catalog) (l : Lifte
           lifts = A .0 bytes c (F .lifts);
           is = λ P R Q. sym (interned-is P R Q) ∙ A .1;
           are = A .2 ∙ ap (written (nodes words′ st′)) (F .are) ∙ written-again (nodes words₁ st₁) (nodes words′ st′) words g;
-          apart = apart-both work work₁ work′ l (F .apart) (A .3);
+          apart = outside-then (l .at) (l .end) work work₁ work′ (F .apart) (A .3);
         }

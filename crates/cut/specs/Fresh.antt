@@ -12,6 +12,7 @@ use Rattle.definition.specs.Analysis.{StoredAll}
 use Rattle.definition.specs.Classes.{freshVariables}
 use Rattle.theory.specs.Patterns.Interned.{Grows, grows-none, grows-then, interned}
 use Rattle.theory.specs.Walks.Again.{stored}
+use Rattle.base.specs.Outside.{outside-none, outside-then}
 use Rattle.store.specs.Words.{nodeWith}
 use Rattle.store.specs.Stored.{nodes, written}
 use Rattle.store.specs.Table.{begins-written}
@@ -156,10 +157,6 @@ lifts-few bytes work words c l st p n L h N =
     let H = L .laid .held in
     omega (arith, N (H .pack) (H .reads), H .proper .good .symbols p (omega (arith, h, length-symbols bytes (recordsOf work c) (H .pack) (H .reads))) .arity)
 
--- one frame after another
-pub apart-both : (work work′ work″ : List ℕ) (l : Lifted) → Apart work work′ l → Apart work′ work″ l → Apart work work″ l
-apart-both work work′ work″ l A B = record { long = B .long ∙ A .long; ahead = λ i h. B .ahead i h ∙ A .ahead i h; beyond = λ i h. B .beyond i h ∙ A .beyond i h }
-
 module _ (bytes work₀ words₀ : List ℕ) (c : Catalog) (l : Lifted) (st₀ : Store) (p n : ℕ) (key₀ : List ℕ) (F : Starts bytes work₀ words₀ c l st₀ p n key₀) where
   -- few arguments
   pub starts-few : n ≤ 16
@@ -173,7 +170,7 @@ module _ (bytes work₀ words₀ : List ℕ) (c : Catalog) (l : Lifted) (st₀ :
     same = refl;
     lifts = F .lifts;
     are = begins-written (nodes words₀ st₀) words₀ (F .lifts .laid .index .placed .begins);
-    apart = record { long = refl; ahead = λ i h. refl; beyond = λ i h. refl };
+    apart = outside-none (l .at) (l .end) work₀;
     rest = λ P R Q. rest-none P p key₀ (nodes words₀ st₀) (take-suc key₀ 0 0 (omega (arith, F .long)) ∙ ap (λ (x : ℕ). x ∷ []) (F .first));
   }
 
@@ -218,7 +215,7 @@ module _ (bytes work₀ words₀ : List ℕ) (c : Catalog) (l : Lifted) (st₀ :
                 let s : length words₀ < length (patternWords (intern (nodes words st) (variableNode k (getD (inputsOf P p) k 0)) .store)) =
                 omega (arith, A .0, G .same, ap (λ (m : Node). length (patternWords (intern (nodes words st) m .store))) (goes-node P R)) in
                 rest-short P p k (length words₀) key (nodes words₀ st₀) (nodes words st) (omega (arith, h, F .many P R)) (G .rest P R Q) s;
-            apart = apart-both work₀ work work′ l (G .apart) (A .1);
+            apart = outside-then (l .at) (l .end) work₀ work work′ (G .apart) (A .1);
           }
 
           -- there is
@@ -232,7 +229,7 @@ module _ (bytes work₀ words₀ : List ℕ) (c : Catalog) (l : Lifted) (st₀ :
             are =
                 let g : Grows (nodes words st) (nodes words′ st′) = subst (Grows (nodes words st)) (ap (λ (o : Stored). o .store) (A .1)) (interned (nodes words st) (nodeWith (variableHead ∷ k ∷ sort ∷ [])) .grows) in
                 A .2 ∙ ap (written (nodes words′ st′)) (G .are) ∙ written-again (nodes words st) (nodes words′ st′) words₀ g;
-            apart = apart-both work₀ work work′ l (G .apart) (A .3);
+            apart = outside-then (l .at) (l .end) work₀ work work′ (G .apart) (A .3);
             rest = λ P R Q.
                 rest-more P p k key (nodes words₀ st₀) (nodes words st) (nodes words′ st′) (i .0) (omega (arith, h, F .many P R)) (omega (arith, h, G .long, starts-few)) (G .rest P R Q)
                 (ap (intern (nodes words st)) (sym (goes-node P R)) ∙ A .1);

@@ -28,7 +28,7 @@ use Rattle.catalog.specs.declared.whole.Catalog.{Catalog}
 use Rattle.pack.specs.Reads.{Reads, length-symbols}
 use Rattle.pack.specs.Says.{Readable, OfPack}
 use Rattle.pack.specs.Held.{Proper, reads-on}
-use Rattle.fresh.specs.Held.{Patterns}
+use Rattle.theory.specs.Copies.Terms.{Patterns}
 use Rattle.kept.specs.Interns.{Interning, cutTop, cut-patterns}
 use Rattle.kept.specs.Variables.{VariablesBelow, variables-cut}
 use Rattle.key.specs.declared.classes.Keying.{Keying}
@@ -172,7 +172,7 @@ module _ (bytes work class words cells : List ℕ) (c : Catalog) (k : Keying) (l
           remembers =
               subst (λ (t : List ℕ). Remembers t memo)
               (sym (part-same (l .copied) (l .walk - l .copied) work₁ work (omega (arith, laid .memo, laid .stack, laid .variables, laid .table, laid .inside, C .apart .long)) (omega (arith, laid .memo, laid .stack, laid .variables, laid .table, laid .inside))
-              (λ j h. C .apart .beyond (l .copied + j) (omega arith))))
+              (λ j h. C .apart .behind (l .copied + j) (omega arith))))
               (S .remembers);
           stored = I .inside;
           few = omega (arith, length-map (inputsOf P p) (λ s. true), S .proper .good .symbols p (A .symbol) .arity);
@@ -214,7 +214,7 @@ module _ (bytes work class words cells : List ℕ) (c : Catalog) (k : Keying) (l
               record {
                 long = O .long ∙ C .apart .long;
                 ahead = λ j m. O .ahead j (omega arith) ∙ C .apart .ahead j (omega (arith, g));
-                behind = λ j m. O .behind j (omega (arith, g, A .number, A .standing .placed .laid .index)) ∙ C .apart .beyond j m;
+                behind = λ j m. O .behind j (omega (arith, g, A .number, A .standing .placed .laid .index)) ∙ C .apart .behind j m;
               }
 
           -- of the class buffer neither

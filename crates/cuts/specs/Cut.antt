@@ -67,7 +67,7 @@ module _ (bytes work next : List ℕ) (c : Catalog) (p : Place) (M : Marks bytes
 
   -- the other marks are as they were
   mark-old : (g : ℕ) → (g ≡ h → ⊥) → markOf done c g ≡ markOf work c g
-  mark-old g d = getD-set-other next (marksAt c + h) (marksAt c + g) v 0 (λ e. d (omega (arith, e))) ∙ G .outside .beyond (marksAt c + g) (omega arith)
+  mark-old g d = getD-set-other next (marksAt c + h) (marksAt c + g) v 0 (λ e. d (omega (arith, e))) ∙ G .outside .behind (marksAt c + g) (omega arith)
 
   -- earlier cuts are of the predicates that they were of
   predicate-old : (j : ℕ) → j < length cs → predicateAt bytes (recordsOf done c 7) j ≡ predicateAt bytes cs j
@@ -118,7 +118,7 @@ module _ (bytes work next : List ℕ) (c : Catalog) (p : Place) (M : Marks bytes
   beyond-done = record {
     long = length-set next (marksAt c + h) v ∙ G .outside .long;
     ahead = λ i l. getD-set-other next (marksAt c + h) i v 0 (λ e. omega (arith, e)) ∙ G .outside .ahead i l;
-    beyond = λ i l. getD-set-other next (marksAt c + h) i v 0 (λ e. omega (arith, e)) ∙ G .outside .beyond i (omega arith);
+    behind = λ i l. getD-set-other next (marksAt c + h) i v 0 (λ e. omega (arith, e)) ∙ G .outside .behind i (omega arith);
   }
 
 -- ---- one law a test

@@ -14,9 +14,10 @@ use Rattle.definition.specs.Pack.{Pack, Cut}
 use Rattle.definition.specs.Good.{noCut}
 use Rattle.definition.specs.Frame.{Checked, good, bad, over}
 use Rattle.definition.specs.Laws.Agreement.{any-some, some-any}
+use Rattle.base.specs.Outside.{Outside, outside-wider}
 use Rattle.region.specs.Place.{Place}
 use Rattle.region.specs.Region.{sizeFor}
-use Rattle.catalog.specs.Whole.{recordsOf, Outside}
+use Rattle.catalog.specs.Whole.{recordsOf, Beside}
 use Rattle.catalog.specs.declared.whole.Catalog.{Catalog}
 use Rattle.pack.specs.Body.{bodyOf, cutIn}
 use Rattle.pack.specs.Reads.{Reads, OneMore, cut-of, length-cuts}
@@ -66,10 +67,10 @@ module _ (bytes work : List ℕ) (c : Catalog) (M : Marks bytes work c) (P : Pac
   ]
 
 -- records of other kinds leave the marks right
-pub marks-kept : (bytes work work′ : List ℕ) (c : Catalog) (k : ℕ) (p : Place) → Marks bytes work c → (k ≡ 7 → ⊥) → OneMore (recordsOf work c) (recordsOf work′ c) k p → Outside work work′ c → Marks bytes work′ c
+pub marks-kept : (bytes work work′ : List ℕ) (c : Catalog) (k : ℕ) (p : Place) → Marks bytes work c → (k ≡ 7 → ⊥) → OneMore (recordsOf work c) (recordsOf work′ c) k p → Beside work work′ c → Marks bytes work′ c
 marks-kept bytes work work′ c k p M d O F =
     let e : recordsOf work′ c 7 ≡ recordsOf work c 7 = O .same 7 (omega arith) (λ q. d (sym q)) in
-    let same-mark : (h : ℕ) → markOf work′ c h ≡ markOf work c h = λ h. F .beyond (marksAt c + h) (omega arith) in
+    let same-mark : (h : ℕ) → markOf work′ c h ≡ markOf work c h = λ h. F .behind (marksAt c + h) (omega arith) in
     record {
       room = omega (arith, M .room, F .long);
       found = λ h l m. rw (e, same-mark h) (M .found h l (rw (same-mark h) at m));
@@ -81,10 +82,8 @@ marks-kept bytes work work′ c k p M d O F =
     marked-at j l e s = rw e (M .marked j l .0, s (predicateAt bytes (recordsOf work c 7) j) ∙ M .marked j l .1)
 
 -- what stands before the regions and behind the marks is as it was
-pub record Beyond (work work′ : List ℕ) (c : Catalog) : Type 0 where
-  pub long : length work′ ≡ length work
-  pub ahead : (i : ℕ) → i < c .at → getD work′ i 0 ≡ getD work i 0
-  pub beyond : (i : ℕ) → marksAt c + c .cap ≤ i → getD work′ i 0 ≡ getD work i 0
+abbrev pub Beyond : List ℕ → List ℕ → Catalog → Type 0
+Beyond work work′ c = Outside (c .at) (marksAt c + c .cap) work work′
 
 -- a record was taken up: the reader is ahead of the next one, and the marks are right
 pub record Advanced (bytes work work′ : List ℕ) (c : Catalog) (end : ℕ) (take : Pack → Checked Pack) : Type 0 where
@@ -104,7 +103,7 @@ pub takes-advances : (bytes work work′ : List ℕ) (c : Catalog) (k end : ℕ)
 takes-advances bytes work work′ c k end take Good M d T = record {
   reading = T .reading;
   marks = marks-kept bytes work work′ c k (T .place) M d (T .more) (T .outside);
-  beyond = record { long = T .outside .long; ahead = T .outside .ahead; beyond = λ i l. T .outside .beyond i (omega arith) };
+  beyond = outside-wider (c .at) (c .at + 9 * sizeFor (c .cap)) (c .at) (marksAt c + c .cap) work work′ (omega arith) (omega arith) (T .outside);
   says = T .says;
 }
 takes-advances bytes work work′ c k end take Bad M d T = T

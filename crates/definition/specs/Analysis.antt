@@ -10,7 +10,7 @@ use Rattle.definition.specs.Pack.{Term, Terms, var, app, nil, cons, Node
 use Rattle.definition.specs.Tree.{Tree, Trees, tree, no-trees, tree-then, treeOf}
 use Rattle.definition.specs.Verdict.{Bound, valueOf, provided, onwards}
 use Rattle.definition.specs.Store.{variableNode, isVariable, below, Stored, intern}
-use Rattle.definition.specs.Graph.{Vertex, Graph, variableVertex, applied, vertex, Grown, push, root, isVar}
+use Rattle.definition.specs.Graph.{Graph, variableVertex, applied, vertex, Grown, push, root, isVar}
 
 -- the numbers met from these on, at most d deep: behind those seen, each once and behind what is below it
 unfoldable pub partsFrom : ℕ → List Node → List ℕ → List ℕ → List ℕ

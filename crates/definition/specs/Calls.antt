@@ -1,9 +1,9 @@
 -- What `cert_classes` and `cert_show` answer, for every pack and all lengths: returned numbers and every cell lent.
 use mathlib.Core.List.{List, []}
-use mathlib.Core.Option.{Option, none, some}
+use mathlib.Core.Option.{none, some}
 use Prim.Native.Nat.{ℕ}
 use lib.ListN.{length}
-use Rattle.definition.specs.Pack.{Node, Goal, Pack}
+use Rattle.definition.specs.Pack.{Pack}
 use Rattle.definition.specs.Frame.{Read, fine, refuse}
 use Rattle.definition.specs.Parse.{parse}
 use Rattle.definition.specs.Answer.{answer, Lent, lengths, padded}

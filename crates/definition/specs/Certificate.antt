@@ -1,13 +1,13 @@
 -- Document 01, "The pack": ground nodes, steps, goals, results, cuts and abstract.
 use mathlib.Core.Bool.{Bool, true, false, not}
 use mathlib.Core.List.{List, [], _∷_, map}
-use Prim.Native.Nat.{ℕ, zero, suc, _+_, _*_, _-_, _/_}
+use Prim.Native.Nat.{ℕ, suc, _+_, _*_, _-_, _/_}
 use lib.Dec.{eqb, ltb, leb}
 use lib.ListN.{length, drop}
 use Rattle.definition.specs.Test.{_and_, all, any, same}
 use Rattle.definition.specs.Little.{le}
-use Rattle.definition.specs.Pack.{prop, Symbol, Terms, nil, cons, Rule, Node, Step, Goal, Result, Cut, Abstract, Pack, symbolOf, ruleOf, sortOf, withNode, withStep, withGoal, withResult, withCut, withAbstract}
-use Rattle.definition.specs.Frame.{Checked, good, bad, over, _>>=_, right, within}
+use Rattle.definition.specs.Pack.{prop, Terms, nil, cons, Node, Goal, Result, Cut, Pack, symbolOf, ruleOf, sortOf, withNode, withStep, withGoal, withResult, withCut, withAbstract}
+use Rattle.definition.specs.Frame.{Checked, good, _>>=_, right}
 use Rattle.definition.specs.Theory.{newName, words}
 
 -- a symbol that was given

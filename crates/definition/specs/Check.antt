@@ -3,8 +3,7 @@ use mathlib.Core.List.{List, []}
 use mathlib.Core.Option.{Option, none, some}
 use Prim.Native.Nat.{ℕ}
 use lib.ListN.{length}
-use Rattle.definition.specs.Pack.{Pack}
-use Rattle.definition.specs.Frame.{Read, fine, refuse}
+use Rattle.definition.specs.Frame.{fine, refuse}
 use Rattle.definition.specs.Parse.{parse}
 use Rattle.definition.specs.Answer.{answer, Lent, lengths, padded}
 use Rattle.definition.specs.Verdict.{verdict}

@@ -2,18 +2,17 @@
 use mathlib.Core.Bool.{Bool, true, false, not}
 use mathlib.Core.List.{List, [], _∷_, _++_, map}
 use mathlib.Core.Option.{Option, none, some}
-use Prim.Native.Nat.{ℕ, zero, suc, _+_}
+use Prim.Native.Nat.{ℕ, suc, _+_}
 use lib.Dec.{eqb}
 use lib.ListN.{length, getD}
 use Rattle.definition.specs.Test.{_and_}
-use Rattle.definition.specs.Pack.{Term, Terms, var, app, nil, cons, Rule, Node, noNode, Step, Pack, symbolOf, ruleOf, stepOf}
+use Rattle.definition.specs.Pack.{Terms, nil, cons, Node, noNode, Pack, symbolOf, ruleOf, stepOf}
 use Rattle.definition.specs.Verdict.{Bound, valueOf}
-use Rattle.definition.specs.Store.{nothing, variableNode, isVariable, Stored, intern, patternWords}
-use Rattle.definition.specs.Graph.{Vertex, Graph, variableVertex, vertex, Grown, cells, root, isVar, Unified, unify, circular, upTo}
-use Rattle.definition.specs.Analysis.{Copy, copied, copy, instantiate, StoredAll, valued, Numbered, Resolved, numberOf, resolve}
-use Rattle.definition.specs.Keys.{Key, cutKey, ruleKey, Keyed, Keys, firstOf, keyed}
-use Rattle.definition.specs.Run.{Note, Run, done, stop, _>>=_, note, return, orElse, need}
-use Rattle.definition.specs.declared.Refusal.{Refusal}
+use Rattle.definition.specs.Store.{variableNode, isVariable, intern, patternWords}
+use Rattle.definition.specs.Graph.{Graph, variableVertex, vertex, cells, root, isVar, unify, circular, upTo}
+use Rattle.definition.specs.Analysis.{copied, copy, instantiate, StoredAll, valued, numberOf, resolve}
+use Rattle.definition.specs.Keys.{cutKey, ruleKey, Keyed, firstOf, keyed}
+use Rattle.definition.specs.Run.{Run, _>>=_, note, return, orElse, need}
 use Rattle.definition.specs.declared.Refusal.the-variants.{Clash, Circle, Instance}
 
 -- a class: its conclusion's pattern and its variables' marks; whether it is a cut one, and what figures count of it

@@ -1,11 +1,11 @@
 -- Document 01, "Figures": `Stats`, each a count over the run.
-use mathlib.Core.Bool.{Bool, true, false, not}
+use mathlib.Core.Bool.{true, false}
 use mathlib.Core.List.{List, [], _∷_}
 use Prim.Native.Nat.{ℕ, _+_}
 use lib.Dec.{eqb, leb}
 use lib.ListN.{length}
 use Rattle.definition.specs.Pack.{Pack}
-use Rattle.definition.specs.Keys.{Keyed, Keys, needed, keyed}
+use Rattle.definition.specs.Keys.{Keyed, needed, keyed}
 use Rattle.definition.specs.Classes.{Class, Built, countOf}
 use Rattle.definition.specs.declared.Figures.{Figures}
 

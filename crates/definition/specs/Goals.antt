@@ -1,18 +1,17 @@
 -- Document 01, "The answer of a call": the goals' tests behind class building, "then goals, ascending".
-use mathlib.Core.Bool.{Bool, true, false}
+use mathlib.Core.Bool.{true, false}
 use mathlib.Core.List.{List, [], _∷_}
 use mathlib.Core.Option.{Option, none, some}
 use Prim.Native.Nat.{ℕ, suc}
 use lib.Dec.{eqb}
 use lib.ListN.{getD}
 use Rattle.definition.specs.Test.{same}
-use Rattle.definition.specs.Pack.{Goal, Result, Step, Pack, stepOf}
+use Rattle.definition.specs.Pack.{Goal, Result, Pack, stepOf}
 use Rattle.definition.specs.Verdict.{Bound, matches}
 use Rattle.definition.specs.Store.{termOf}
-use Rattle.definition.specs.Keys.{Keys, firstOf, keyed}
-use Rattle.definition.specs.Classes.{Class, noClass, Built}
-use Rattle.definition.specs.Run.{Run, stop, _>>=_, return, orElse, need}
-use Rattle.definition.specs.declared.Refusal.{Refusal}
+use Rattle.definition.specs.Keys.{firstOf, keyed}
+use Rattle.definition.specs.Classes.{noClass, Built}
+use Rattle.definition.specs.Run.{Run, _>>=_, return, orElse, need}
 use Rattle.definition.specs.declared.Refusal.the-variants.{Goal as Unmet, Instance}
 
 -- a goal with the first step of its result's judgment, that step's class, and the values of the conclusion's variables

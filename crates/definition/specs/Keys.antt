@@ -6,7 +6,7 @@ use Prim.Native.Nat.{ℕ, zero, suc}
 use lib.Dec.{eqb}
 use lib.ListN.{length, getD, set}
 use Rattle.definition.specs.Test.{_and_, any, same}
-use Rattle.definition.specs.Pack.{Node, Step, Result, Cut, Pack, nodeOf, stepOf}
+use Rattle.definition.specs.Pack.{Step, Result, Cut, Pack, nodeOf, stepOf}
 use Rattle.definition.specs.Store.{nothing}
 use Rattle.definition.specs.Graph.{upTo}
 

@@ -1,12 +1,12 @@
 -- Document 01, "Goals as shown": from `show`, `show_ground`, `bind`.
-use mathlib.Core.Bool.{Bool, true, false}
+use mathlib.Core.Bool.{true, false}
 use mathlib.Core.List.{List, [], _∷_, _++_}
-use mathlib.Core.Option.{Option, none, some}
+use mathlib.Core.Option.{none, some}
 use Prim.Native.Nat.{ℕ, zero, suc}
 use lib.Dec.{eqb}
 use lib.ListN.{length, getD}
 use Rattle.definition.specs.Decimal.{decimal}
-use Rattle.definition.specs.Pack.{prop, Symbol, Term, Terms, var, app, nil, cons, Goal, Pack, symbolOf, sortOf}
+use Rattle.definition.specs.Pack.{prop, Term, Terms, var, app, nil, cons, Pack, symbolOf, sortOf}
 use Rattle.definition.specs.Verdict.{Bound, valueOf}
 use Rattle.definition.specs.Store.{termOf}
 use Rattle.definition.specs.Graph.{upTo}

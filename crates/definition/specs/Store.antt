@@ -5,7 +5,7 @@ use mathlib.Core.Option.{Option, none, some}
 use Prim.Native.Nat.{ℕ, zero, suc}
 use lib.Dec.{eqb}
 use lib.ListN.{length, getD, take, drop}
-use Rattle.definition.specs.Pack.{Term, Terms, var, app, nil, cons, Node, noNode}
+use Rattle.definition.specs.Pack.{Term, Terms, var, app, nil, cons, Node}
 use Rattle.definition.specs.Certificate.{sameNode}
 
 -- "2^32−1 if unneeded"

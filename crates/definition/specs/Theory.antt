@@ -7,7 +7,7 @@ use lib.ListN.{length, getD, drop, replicate}
 use Rattle.definition.specs.Test.{_and_, all, any, same}
 use Rattle.definition.specs.Little.{le}
 use Rattle.definition.specs.Pack.{prop, Symbol, Term, Terms, var, app, nil, cons, Rule, Pack, symbolOf, withSort, withSymbol, withRule}
-use Rattle.definition.specs.Frame.{Checked, good, bad, over, _>>=_, right, within}
+use Rattle.definition.specs.Frame.{Checked, good, over, _>>=_, right, within}
 
 -- "bytes of 33 to 126, no round bracket"
 unfoldable pub nameByte : ℕ → Bool

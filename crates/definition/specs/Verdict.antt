@@ -7,7 +7,7 @@ use Prim.Native.Nat.{ℕ, suc, _<_}
 use lib.Dec.{eqb}
 use lib.ListN.{length, getD}
 use Rattle.definition.specs.Test.{_and_, any, same}
-use Rattle.definition.specs.Pack.{Term, Terms, var, app, nil, cons, Rule, Node, Step, Goal, Result, Pack, ruleOf, nodeOf, stepOf}
+use Rattle.definition.specs.Pack.{Term, Terms, var, app, nil, cons, Step, Goal, Result, Pack, ruleOf, nodeOf, stepOf}
 use Rattle.definition.specs.Tree.{Tree, Trees, no-trees, tree-then, treeOf, turn, turns}
 use Rattle.definition.specs.declared.Refusal.{Refusal}
 use Rattle.definition.specs.declared.Refusal.the-variants.{Step as StepFails, Goal as GoalFails}

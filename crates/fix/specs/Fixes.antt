@@ -5,12 +5,13 @@ use mathlib.Core.Option.{Option, none, some}
 use Prim.Native.Nat.{ℕ, suc, _+_, _*_, _-_, _≤_, _<_}
 use native.Mathlib.Omega.{arith}
 use lib.ListN.{length, set}
-use Rattle.definition.specs.Test.{is}
 use Rattle.definition.specs.Pack.{Pack}
 use Rattle.definition.specs.Good.{Below}
 use Rattle.definition.specs.Verdict.{Bound}
 use Rattle.definition.specs.Graph.{Graph, Pair, vertex}
 use Rattle.definition.specs.Analysis.{valued}
+use Rattle.valuation.specs.Words.{valuesEnd, tableIn, Stands, Framed, Values, Says, stands-pair, table-room, framed-same, values-on}
+use Rattle.base.specs.Outside.{outside-none, outside-then}
 use Rattle.catalog.specs.Whole.{recordsOf}
 use Rattle.catalog.specs.declared.whole.Catalog.{Catalog}
 use Rattle.pack.specs.Reads.{Reads, length-nodes}
@@ -26,7 +27,6 @@ use Rattle.valuation.specs.declared.words.Valued.{Valued}
 use Rattle.fix.specs.declared.walk.Turn.the-variants.{On, Unlike}
 use Rattle.fix.specs.declared.walk.Fixed.{Fixed}
 use Rattle.fix.specs.declared.walk.Fixed.the-variants.{Done, Differs}
-use Rattle.valuation.specs.Words.{tableIn, Stands, Framed, Values, Says, stands-pair, table-room, framed-none, framed-then, framed-same, values-on}
 use Rattle.valuation.specs.Stores.{PutsPair}
 use Rattle.fix.specs.Takes.{Left, Ready, Takes}
 use Rattle.fix.specs.Turns.{leftIn, left-on, left-stop, left-done}
@@ -44,7 +44,7 @@ pub record Going (bytes before work words : List ℕ) (c : Catalog) (l : Valued)
 
 -- no turn yet
 pub going-none : (bytes before words : List ℕ) (c : Catalog) (l : Valued) (s : Counts) → Going bytes before before words c l s 1
-going-none bytes before words c l s = record { framed = framed-none words l before; state = λ P R p h vs o L. (vs, L) }
+going-none bytes before words c l s = record { framed = outside-none (l .at) (l .at + valuesEnd words) before; state = λ P R p h vs o L. (vs, L) }
 
 -- the last of some pairs
 pub going-at : (bytes before work words : List ℕ) (c : Catalog) (l : Valued) (s : Counts) (top : ℕ) → 0 < top → Going bytes before work words c l s top → Going bytes before work words c l s (suc (top - 1))
@@ -82,7 +82,7 @@ module _ (bytes before work words : List ℕ) (c : Catalog) (l : Valued) (s : Co
     -- what is left still gives the whole
     pub going-on : Going bytes before work′ words c l s more
     going-on = record {
-      framed = framed-then words l before work work′ (G .framed) (M .0);
+      framed = outside-then (l .at) (l .at + valuesEnd words) before work work′ (G .framed) (M .0);
       state = λ P R p h vs o L.
           let t = G .state P R p h vs o L in
           let m = M .1 P (going-reads P R) p h (t .0) (t .1 .stands) in
@@ -151,7 +151,7 @@ module _ (bytes work words : List ℕ) (c : Catalog) (l : Valued) (s : Counts) (
   -- all turns were taken
   pub fixes-done : (work′ : List ℕ) → Going bytes first work′ words c l s 0 → Fixes bytes work work′ words c l s x n Done
   fixes-done work′ G = (
-    framed-then words l work first work′ (W .1) (G .framed),
+    outside-then (l .at) (l .at + valuesEnd words) work first work′ (W .1) (G .framed),
     λ P R p h vs S.
         let o = valued (suc (length h)) P h (x ∷ []) (n ∷ []) vs in
         let t = G .state P (first-reads P R) p h vs o (first-left P R h vs S) in
@@ -161,7 +161,7 @@ module _ (bytes work words : List ℕ) (c : Catalog) (l : Valued) (s : Counts) (
   -- one differs
   pub fixes-differs : (mid work′ : List ℕ) (top : ℕ) → Going bytes first mid words c l s (suc top) → Takes bytes mid work′ words c l s top Unlike → Fixes bytes work work′ words c l s x n Differs
   fixes-differs mid work′ top G M = (
-    framed-then words l work first work′ (W .1) (framed-then words l first mid work′ (G .framed) (M .0)),
+    outside-then (l .at) (l .at + valuesEnd words) work first work′ (W .1) (outside-then (l .at) (l .at + valuesEnd words) first mid work′ (G .framed) (M .0)),
     λ P R p h vs S.
         let o = valued (suc (length h)) P h (x ∷ []) (n ∷ []) vs in
         let t = G .state P (first-reads P R) p h vs o (first-left P R h vs S) in

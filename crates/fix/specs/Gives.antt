@@ -2,7 +2,7 @@
 use mathlib.Core.Path.{_≡_, sym, ap, subst, _∙_}
 use mathlib.Core.List.{List, _∷_}
 use mathlib.Core.Option.{Option, none, some}
-use Prim.Native.Nat.{ℕ, _+_, _-_, _≤_, _<_}
+use Prim.Native.Nat.{ℕ, _+_, _≤_, _<_}
 use native.Mathlib.Omega.{arith}
 use lib.ListN.{length, set}
 use Rattle.definition.specs.Pack.{Pack, nodeOf}
@@ -10,6 +10,8 @@ use Rattle.definition.specs.Verdict.{Bound}
 use Rattle.definition.specs.Store.{variableHead}
 use Rattle.definition.specs.Graph.{Graph, Pair, vertex}
 use Rattle.definition.specs.Analysis.{pairing}
+use Rattle.valuation.specs.Words.{valuesEnd, valuesAt, tableIn, Stands, Framed, Values, Says, few-nodes, stands-value, table-room, framed-same, values-on}
+use Rattle.base.specs.Outside.{outside-none, outside-then}
 use Rattle.base.specs.Listed.{length-listed}
 use Rattle.region.specs.Region.{countIn, placeIn, places}
 use Rattle.catalog.specs.Whole.{recordsOf, regionOf}
@@ -28,7 +30,6 @@ use Rattle.valuation.specs.declared.words.Valued.{Valued}
 use Rattle.valuation.specs.declared.words.Known.the-variants.{Nothing}
 use Rattle.fix.specs.declared.walk.Turn.{Turn}
 use Rattle.fix.specs.declared.walk.Turn.the-variants.{On, Unlike}
-use Rattle.valuation.specs.Words.{valuesAt, tableIn, Stands, Framed, Values, Says, few-nodes, stands-value, table-room, framed-none, framed-then, framed-same, values-on}
 use Rattle.valuation.specs.Stores.{ValueIs, PutsValue}
 use Rattle.fix.specs.Pushes.{Pushable, Pushes, ground-on}
 use Rattle.fix.specs.Taking.{take-variable, take-unlike, take-ahead}
@@ -95,7 +96,7 @@ module _ (bytes work words : List ℕ) (c : Catalog) (l : Valued) (s : Counts) (
     -- with another head
     pub gives-unlike : (other ≡ head → ⊥) → GivesTo bytes work work words c l s top r n Unlike
     gives-unlike d = (
-      framed-none words l work,
+      outside-none (l .at) (l .at + valuesEnd words) work,
       λ P R p h vs S. take-unlike P h r n (pairsIn (rowsEnd words) (tableIn l work) top) vs (Q .bare s h vs S (Q .node)) (head-other h r head (E h (S .shows)) a) (λ q. d (O P R ∙ sym q ∙ sym (E h (S .shows)))),
     )
 
@@ -110,7 +111,7 @@ module _ (bytes work words : List ℕ) (c : Catalog) (l : Valued) (s : Counts) (
       -- with more arguments, or fewer
       pub gives-longer : (m ≡ k → ⊥) → GivesTo bytes work work words c l s top r n Unlike
       gives-longer d = (
-        framed-none words l work,
+        outside-none (l .at) (l .at + valuesEnd words) work,
         λ P R p h vs S. by-arguments P R h vs S none (ahead-unlike (vertex h r .args) (nodeOf P n .args) (pairsIn (rowsEnd words) (tableIn l work) top) (λ q. d (B P R ∙ sym q ∙ sym (A h (S .shows))))),
       )
 
@@ -144,7 +145,7 @@ module _ (bytes work words : List ℕ) (c : Catalog) (l : Valued) (s : Counts) (
         -- they were
         pub gives-arguments : (work′ : List ℕ) (more : ℕ) → Pushes bytes next work′ words c l s top r n more → GivesTo bytes work work′ words c l s top r n (On more)
         gives-arguments work′ more M = (
-          framed-then words l work next work′ (W .1) (M .0),
+          outside-then (l .at) (l .at + valuesEnd words) work next work′ (W .1) (M .0),
           λ P R p h vs S.
               let t = M .1 P (next-reads P R) p h (pairing r n ∷ vs) (given-stands next W h vs S) in (
                 pairing r n ∷ vs,

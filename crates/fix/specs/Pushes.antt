@@ -7,6 +7,8 @@ use native.Mathlib.Omega.{arith}
 use lib.ListN.{length, getD, set, take}
 use Rattle.definition.specs.Pack.{Pack, nodeOf}
 use Rattle.definition.specs.Graph.{Pair, vertex}
+use Rattle.valuation.specs.Words.{valuesEnd, tableIn, Stands, Framed, Values, Says, stands-pair, table-room, framed-same, values-on}
+use Rattle.base.specs.Outside.{outside-none, outside-then}
 use Rattle.catalog.specs.Whole.{recordsOf, Cataloged}
 use Rattle.region.specs.Place.{Place}
 use Rattle.catalog.specs.Same.{endOf, same-records}
@@ -20,7 +22,6 @@ use Rattle.graph.specs.Cells.{startIn, rowsEnd}
 use Rattle.graph.specs.Nodes.{ArityOf, ArgumentOf, argument-there}
 use Rattle.graph.specs.Stack.{pairsIn, pairs-more}
 use Rattle.valuation.specs.declared.words.Valued.{Valued}
-use Rattle.valuation.specs.Words.{tableIn, Stands, Framed, Values, Says, stands-pair, table-room, framed-none, framed-then, framed-same, values-on}
 use Rattle.valuation.specs.Stores.{PutsPair}
 
 -- as many nodes are recorded where nothing ahead of the table has changed
@@ -57,7 +58,7 @@ module _ (bytes before words : List ℕ) (c : Catalog) (l : Valued) (s : Counts)
   pushing-none = record {
     low = omega arith;
     count = refl;
-    framed = framed-none words l before;
+    framed = outside-none (l .at) (l .at + valuesEnd words) before;
     rest = λ P R p h vs S. (S, ahead-all (vertex h r .args) (nodeOf P n .args) k (pairsIn (rowsEnd words) (tableIn l before) top) (sym (Q .arity h (S .shows))) (sym (Q .many P R)));
   }
 
@@ -106,7 +107,7 @@ module _ (bytes before words : List ℕ) (c : Catalog) (l : Valued) (s : Counts)
           record {
             low = omega (arith, K .low);
             count = omega (arith, K .count);
-            framed = framed-then words l before work work′ (K .framed) (W .1);
+            framed = outside-then (l .at) (l .at + valuesEnd words) before work work′ (K .framed) (W .1);
             rest = λ P R p h vs S.
                 let xs : List ℕ = vertex h r .args in
                 let ns : List ℕ = nodeOf P n .args in

@@ -1,8 +1,8 @@
 -- One turn: the root of the pair behind the others has its ground node for a value, or gets it.
 use mathlib.Core.Path.{_≡_, sym, ap, ap₂, _∙_}
 use mathlib.Core.List.{List, _∷_}
-use mathlib.Core.Option.{Option, none, some}
-use Prim.Native.Nat.{ℕ, suc, _+_, _*_, _-_, _≤_, _<_}
+use mathlib.Core.Option.{Option, some}
+use Prim.Native.Nat.{ℕ, suc, _+_, _*_, _≤_, _<_}
 use native.Mathlib.Omega.{arith}
 use lib.ListN.{length, getD}
 use Rattle.definition.specs.Pack.{Pack}
@@ -10,6 +10,8 @@ use Rattle.definition.specs.Good.{Below}
 use Rattle.definition.specs.Verdict.{Bound, valueOf}
 use Rattle.definition.specs.Graph.{Graph, Pair, vertex, root}
 use Rattle.definition.specs.Analysis.{pairing, valued}
+use Rattle.valuation.specs.Words.{valuesEnd, tableIn, Stands, Placed, Values, few-nodes, stands-found, table-at, framed-same}
+use Rattle.base.specs.Outside.{outside-then}
 use Rattle.catalog.specs.Whole.{recordsOf}
 use Rattle.catalog.specs.declared.whole.Catalog.{Catalog}
 use Rattle.pack.specs.Reads.{Reads, length-nodes}
@@ -26,7 +28,6 @@ use Rattle.valuation.specs.declared.words.Valued.{Valued}
 use Rattle.valuation.specs.declared.words.Known.the-variants.{Nothing}
 use Rattle.fix.specs.declared.walk.Turn.{Turn}
 use Rattle.fix.specs.declared.walk.Turn.the-variants.{On, Unlike}
-use Rattle.valuation.specs.Words.{tableIn, Stands, Placed, Values, few-nodes, stands-found, table-at, framed-then, framed-same}
 use Rattle.valuation.specs.Stores.{ValueIs, FindsRoot}
 use Rattle.fix.specs.Pushes.{ground-on}
 use Rattle.fix.specs.Taking.{take-known, take-other}
@@ -143,13 +144,13 @@ module _ (bytes work words : List ℕ) (c : Catalog) (l : Valued) (s : Counts) (
       -- it gets one
       takes-on : (work′ : List ℕ) (more : ℕ) → GivesTo bytes mid work′ words c l s top r n (On more) → Takes bytes work work′ words c l s top (On more)
       takes-on work′ more M = (
-        framed-then words l work mid work′ (F .1) (M .0),
+        outside-then (l .at) (l .at + valuesEnd words) work mid work′ (F .1) (M .0),
         λ P R p h vs S. let t = M .1 P (found-reads P R) p h vs (found-stands h vs S) in (t .0, found-turn P h vs S ∙ t .1, t .2),
       )
 
       -- it can not
       takes-none : (work′ : List ℕ) → GivesTo bytes mid work′ words c l s top r n Unlike → Takes bytes work work′ words c l s top Unlike
-      takes-none work′ M = (framed-then words l work mid work′ (F .1) (M .0), λ P R p h vs S. found-turn P h vs S ∙ M .1 P (found-reads P R) p h vs (found-stands h vs S))
+      takes-none work′ M = (outside-then (l .at) (l .at + valuesEnd words) work mid work′ (F .1) (M .0), λ P R p h vs S. found-turn P h vs S ∙ M .1 P (found-reads P R) p h vs (found-stands h vs S))
 
       -- either
       pub takes-given : (work′ : List ℕ) (t : Turn) → GivesTo bytes mid work′ words c l s top r n t → Takes bytes work work′ words c l s top t

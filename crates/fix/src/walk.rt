@@ -58,8 +58,8 @@ fn push_arguments(
     while 0 < i {
         i -= 1;
         let x = g.argument(cells, &work[a..e], r, i);
-        let m = node_argument(pack, work, c, n.0 as usize, i);
-        put_pair(work, cells, l, on, x, Ground(m));
+        let m = node_argument(pack, work, c, n, i);
+        put_pair(work, cells, l, on, x, m);
         on += 1;
     }
     on
@@ -87,11 +87,11 @@ fn give(
         put_value(work, cells, l, r, n);
         return Turn::On(top);
     }
-    if node_head(pack, work, c, n.0 as usize) != head {
+    if node_head(pack, work, c, n) != head {
         return Turn::Unlike;
     }
     let k = g.arity(cells, &work[a..e], r);
-    if node_arity(pack, work, c, n.0 as usize) != k {
+    if node_arity(pack, work, c, n) != k {
         return Turn::Unlike;
     }
     put_value(work, cells, l, r, n);

@@ -1,7 +1,8 @@
 // The header in front of a record's body.
 ghost use Prim.Native.Nat.{_≤_};
 ghost use lib.ListN.{length};
-ghost use Rattle.frame.specs.Header.{Heads};
+ghost use Rattle.frame.specs.Header.{Heads, HeadsFirst};
+use crate::unread::first_header;
 use buffer::little::u16_at;
 use buffer::little::u32_at;
 
@@ -11,20 +12,18 @@ pub enum Header {
     Bad,
 }
 
-// The header at `at`, behind a record of the kind `last`.
-pub fn header_at(pack: &[u8], at: usize, last: u32) -> Header
-    requires { ⌜ at ≤ length (now pack) ⌝ }
-    ensures { λ r. ⌜ Heads (now (pack .entry)) at last r ⌝ }
+// The header at the start of a pack's tail, behind a record of the kind `last`.
+pub fn header_of(tail: &[u8], last: u32) -> Header
+    ensures { λ r. ⌜ HeadsFirst (now (tail .entry)) last r ⌝ }
 {
-    if pack.len() - at < 6 {
+    if tail.len() < 6 {
         return Header::Bad;
     }
-    let start = at + 6;
-    let size = u32_at(pack, at) as usize;
-    if pack.len() - start < size {
+    let size = u32_at(tail, 0) as usize;
+    if tail.len() - 6 < size {
         return Header::Bad;
     }
-    let kind = u16_at(pack, at + 4);
+    let kind = u16_at(tail, 4);
     if kind < 1 {
         return Header::Bad;
     }
@@ -34,5 +33,16 @@ pub fn header_at(pack: &[u8], at: usize, last: u32) -> Header
     if kind < last {
         return Header::Bad;
     }
-    Header::Whole(kind, start + size)
+    Header::Whole(kind, 6 + size)
+}
+
+// The header at `at`, behind a record of the kind `last`.
+pub fn header_at(pack: &[u8], at: usize, last: u32) -> Header
+    requires { ⌜ at ≤ length (now pack) ⌝ }
+    ensures { λ r. ⌜ Heads (now (pack .entry)) at last r ⌝ }
+{
+    match first_header(&pack[at..], last) {
+        Header::Whole(kind, end) => Header::Whole(kind, at + end),
+        Header::Bad => Header::Bad,
+    }
 }

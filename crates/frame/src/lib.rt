@@ -2,3 +2,4 @@
 pub mod header;
 pub mod name;
 pub mod row;
+pub mod unread;

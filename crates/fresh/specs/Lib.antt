@@ -1,4 +1,4 @@
--- Copying a pattern into the graph: what the words hold meanwhile, and one node's copy.
+-- The copy of one pattern node in the graph: where its tables stand, and what is written.
 pub mod Held
 pub mod Steps
 pub mod Writes

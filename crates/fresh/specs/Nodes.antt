@@ -7,10 +7,11 @@ use Prim.Native.Nat.{ℕ, _+_, _-_, _≤_, _<_}
 use native.Mathlib.Omega.{arith}
 use borrow.Author.Tests.{eq-eqb, ne-eqb}
 use lib.ListN.{length, getD, set, take, drop}
-use Rattle.definition.specs.Test.{is}
 use Rattle.definition.specs.Store.{variableHead}
-use Rattle.definition.specs.Graph.{Vertex, variableVertex}
+use Rattle.definition.specs.Graph.{Vertex, variableVertex, applied}
 use Rattle.base.specs.Part.{put}
+use Rattle.base.specs.Outside.{Outside, outside-then, outside-wider}
+use Rattle.base.specs.Lent.{lent-ahead, lent-behind, back, back-outside}
 use Rattle.memo.specs.Recall.{recall, Remembers}
 use Rattle.memo.specs.declared.memo.Memo.{Memo}
 use Rattle.graph.specs.Cells.{markIn, nodes-few}
@@ -22,9 +23,7 @@ use Rattle.graph.specs.declared.graph.Pushed.the-variants.{At, Short}
 use Rattle.base.specs.declared.id.Node.{Node}
 use Rattle.fresh.specs.declared.node.Copying.{Copying}
 use Rattle.fresh.specs.Held.{tableIn, rowsAt, rowsIn, copyIn, Apart}
-use Rattle.fresh.specs.Steps.{markAt, Outside, noted, Notes, Grows, Makes, Finished, Unfinished, vertexFor, numberFor}
-use Rattle.definition.specs.Graph.{applied}
-use Rattle.fresh.specs.Writes.{outside-then, outside-wider, outside-put, back, part-ahead, part-after}
+use Rattle.fresh.specs.Steps.{markAt, noted, Notes, Grows, Makes, CopiedTo, NoRoom, vertexFor, numberFor}
 use Rattle.graph.specs.declared.graph.Graph.{Graph as Counts}
 
 -- ---- a node more in the graph
@@ -40,7 +39,7 @@ module _ (work cells table′ : List ℕ) (l : Copying) (fits : rowsAt cells l �
   pub grows : (cells′ : List ℕ) (g : Counts) (v : Vertex) (r : Pushed) → Pushes cells cells′ (rowsIn work cells l) table′ g v r → Grows work (put (l .graph) (rowsAt cells l - l .graph) table′ work) cells cells′ l g v r
   grows cells′ g v r P = (
     subst (λ (t : List ℕ). Pushes cells cells′ (rowsIn work cells l) t g v r) (sym (back (l .graph) (rowsAt cells l) work table′ (omega arith) fits long)) P,
-    outside-put (l .graph) (rowsAt cells l) work table′ (omega arith) fits long,
+    back-outside (l .graph) (rowsAt cells l) work table′ (omega arith) fits long,
   )
 
 -- a variable's copy, with the mark as it was read
@@ -83,14 +82,14 @@ module _ (work cells cells′ flex : List ℕ) (l : Copying) (memo : Memo) (g : 
   answered q e = subst (λ (o : Pushed). Grows work mid cells cells′ l g v o) e G₀
 
   -- there was no room
-  pub finish-short : r ≡ Short → Unfinished work mid cells cells′ flex l memo g key
-  finish-short e =
+  pub copied-short : r ≡ Short → NoRoom work mid cells cells′ flex l memo g key
+  copied-short e =
       let G = answered Short e in
       let O = G .1 in (
         G .0,
         record {
-          beside = record { long = O .long; ahead = λ i h. O .before i (omega (arith, A .table, A .stack, A .marks)); beyond = O .behind };
-          stack = λ i h k. O .before i (omega (arith, A .marks));
+          beside = outside-wider (l .graph) (rowsAt cells l) (l .copied) (rowsAt cells l) work mid (omega (arith, A .table, A .stack, A .marks)) (omega arith) O;
+          stack = λ i h k. O .ahead i (omega (arith, A .marks));
         },
       )
 
@@ -108,39 +107,37 @@ module _ (work cells cells′ flex : List ℕ) (l : Copying) (memo : Memo) (g : 
       made-noted : Makes work noted₁ cells cells′ flex l g v (numberFor key) x g′
       made-noted =
           let G = answered (At x g′) e in
-          let q : rowsIn noted₁ cells l ≡ rowsIn mid cells l = part-after (l .variables) (l .graph) (l .graph) (rowsAt cells l) mid noted₁ (N .0) (omega arith) (omega (arith, A .rows, G .1 .long)) (omega arith) in (
+          let q : rowsIn noted₁ cells l ≡ rowsIn mid cells l = lent-behind (l .variables) (l .graph) mid noted₁ (N .0) (l .graph) (rowsAt cells l) (omega arith) (omega arith) (omega (arith, A .rows, G .1 .long)) in (
             subst (λ (t : List ℕ). Pushes cells cells′ (rowsIn work cells l) t g v (At x g′)) (sym q) (G .0),
             outside-then (l .variables) (rowsAt cells l) work mid noted₁
                 (outside-wider (l .graph) (rowsAt cells l) (l .variables) (rowsAt cells l) work mid (omega (arith, A .marks)) (omega arith) (G .1))
                 (outside-wider (l .variables) (l .graph) (l .variables) (rowsAt cells l) mid noted₁ (omega arith) (omega arith) (N .0)),
-            λ j h. N .1 j h ∙ ap (noted (numberFor key) (x .0) j) (G .1 .before (l .variables + j) (omega (arith, A .marks))),
+            λ j h. N .1 j h ∙ ap (noted (numberFor key) (x .0) j) (G .1 .ahead (l .variables + j) (omega (arith, A .marks))),
           )
 
       -- the memo's table is as it was
       pub table-kept : tableIn noted₁ l ≡ tableIn work l
-      table-kept = part-ahead (l .variables) (rowsAt cells l) (l .copied) (l .walk) work noted₁ (made-noted .1) (A .stack) (omega (arith, A .stack, A .marks, A .rows)) (A .table)
+      table-kept = lent-ahead (l .variables) (rowsAt cells l) work noted₁ (made-noted .1) (l .copied) (l .walk) (A .table) (A .stack) (omega (arith, A .stack, A .marks, A .rows))
 
       -- and within
       pub table-inside : l .walk ≤ length noted₁
       table-inside = omega (arith, made-noted .1 .long, A .stack, A .marks, A .rows)
 
       -- and then the memo has it
-      pub finish-made : (table′ : List ℕ) → length table′ ≡ length (tableIn noted₁ l) → Remembers table′ memo × (recall table′ memo ≡ set (recall (tableIn noted₁ l) memo) p (some (x .0)))
-          → Finished work (put (l .copied) (l .walk - l .copied) table′ noted₁) cells cells′ flex l memo g p key x g′
-      finish-made table′ long R =
+      pub copied-made : (table′ : List ℕ) → length table′ ≡ length (tableIn noted₁ l) → Remembers table′ memo × (recall table′ memo ≡ set (recall (tableIn noted₁ l) memo) p (some (x .0)))
+          → CopiedTo work (put (l .copied) (l .walk - l .copied) table′ noted₁) cells cells′ flex l memo g p key x g′
+      copied-made table′ long R =
           let M = made-noted in
           let last : List ℕ = put (l .copied) (l .walk - l .copied) table′ noted₁ in
           let B = back (l .copied) (l .walk) noted₁ table′ (A .table) table-inside long in
-          let O = outside-put (l .copied) (l .walk) noted₁ table′ (A .table) table-inside long in
-          let rows : rowsIn last cells l ≡ rowsIn noted₁ cells l = part-after (l .copied) (l .walk) (l .graph) (rowsAt cells l) noted₁ last O (omega (arith, A .stack, A .marks)) (omega (arith, A .rows, M .1 .long)) (omega arith) in (
+          let O = back-outside (l .copied) (l .walk) noted₁ table′ (A .table) table-inside long in
+          let rows : rowsIn last cells l ≡ rowsIn noted₁ cells l = lent-behind (l .copied) (l .walk) noted₁ last O (l .graph) (rowsAt cells l) (omega arith) (omega (arith, A .stack, A .marks)) (omega (arith, A .rows, M .1 .long)) in (
             subst (λ (t : List ℕ). Pushes cells cells′ (rowsIn work cells l) t g v (At x g′)) (sym rows) (M .0),
             record {
-              beside = record {
-                long = O .long ∙ M .1 .long;
-                ahead = λ i h. O .before i h ∙ M .1 .before i (omega (arith, A .table, A .stack));
-                beyond = λ i h. O .behind i (omega (arith, A .stack, A .marks)) ∙ M .1 .behind i h;
-              };
-              stack = λ i h k. O .behind i h ∙ M .1 .before i k;
+              beside = outside-then (l .copied) (rowsAt cells l) work noted₁ last
+                  (outside-wider (l .variables) (rowsAt cells l) (l .copied) (rowsAt cells l) work noted₁ (omega (arith, A .table, A .stack)) (omega arith) (M .1))
+                  (outside-wider (l .copied) (l .walk) (l .copied) (rowsAt cells l) noted₁ last (omega arith) (omega (arith, A .stack, A .marks)) O);
+              stack = λ i h k. O .behind i h ∙ M .1 .ahead i k;
             },
             λ j h. O .behind (l .variables + j) (omega (arith, A .stack)) ∙ M .2 j h,
             subst (λ (t : List ℕ). Remembers t memo) (sym B) (R .0),

@@ -9,24 +9,17 @@ use lib.ListN.{length, getD, set, drop}
 use Rattle.definition.specs.Store.{variableHead}
 use Rattle.definition.specs.Good.{Below}
 use Rattle.definition.specs.Graph.{Vertex, variableVertex, applied, cells}
-use Rattle.definition.specs.Analysis.{copied}
+use Rattle.base.specs.Outside.{Outside}
 use Rattle.memo.specs.Recall.{recall, Remembers}
 use Rattle.memo.specs.declared.memo.Memo.{Memo}
 use Rattle.graph.specs.Pushes.{Pushes}
 use Rattle.graph.specs.declared.graph.Pushed.{Pushed}
 use Rattle.graph.specs.declared.graph.Pushed.the-variants as pushed
 use Rattle.fresh.specs.declared.node.Copying.{Copying}
-use Rattle.fresh.specs.declared.node.Turn.{Turn}
-use Rattle.fresh.specs.declared.node.Turn.the-variants as turns
 use Rattle.base.specs.declared.id.Node.{Node as Id}
 use Rattle.graph.specs.declared.graph.Graph.{Graph as Counts}
-use Rattle.fresh.specs.Held.{tableIn, rowsAt, rowsIn, marksIn, copyIn, Beside}
-
--- the words outside of a part are as they were
-pub record Outside (a b : ℕ) (work work′ : List ℕ) : Type 0 where
-  pub long : length work′ ≡ length work
-  pub before : (i : ℕ) → i < a → getD work′ i 0 ≡ getD work i 0
-  pub behind : (i : ℕ) → b ≤ i → getD work′ i 0 ≡ getD work i 0
+use Rattle.fresh.specs.Held.{tableIn, rowsAt, rowsIn, copyIn, Beside}
+use Rattle.graph.specs.Cells.{marksIn}
 
 -- a class variable's mark; beyond the last there is none
 abbrev pub markAt : List ℕ → ℕ → Bool
@@ -75,17 +68,17 @@ pub record Stays (work work′ cells : List ℕ) (l : Copying) : Type 0 where
   pub stack : (i : ℕ) → l .walk ≤ i → i < l .variables → getD work′ i 0 ≡ getD work i 0
 
 -- a pattern with a key was copied to node x
-abbrev pub Finished : List ℕ → List ℕ → List ℕ → List ℕ → List ℕ → Copying → Memo → Counts → ℕ → List ℕ → Id → Counts → Type 0
-Finished work work′ cells cells′ flex l memo g p key x g′ =
+abbrev pub CopiedTo : List ℕ → List ℕ → List ℕ → List ℕ → List ℕ → Copying → Memo → Counts → ℕ → List ℕ → Id → Counts → Type 0
+CopiedTo work work′ cells cells′ flex l memo g p key x g′ =
     Pushes cells cells′ (rowsIn work cells l) (rowsIn work′ cells l) g (vertexFor work l memo flex key) (pushed.At x g′)
     × Stays work work′ cells l × Notes work work′ flex l (numberFor key) (x .0)
     × Remembers (tableIn work′ l) memo × (recall (tableIn work′ l) memo ≡ set (recall (tableIn work l) memo) p (some (x .0)))
 
 -- or there was no room for its copy
-abbrev pub Unfinished : List ℕ → List ℕ → List ℕ → List ℕ → List ℕ → Copying → Memo → Counts → List ℕ → Type 0
-Unfinished work work′ cells cells′ flex l memo g key = Pushes cells cells′ (rowsIn work cells l) (rowsIn work′ cells l) g (vertexFor work l memo flex key) pushed.Short × Stays work work′ cells l
+abbrev pub NoRoom : List ℕ → List ℕ → List ℕ → List ℕ → List ℕ → Copying → Memo → Counts → List ℕ → Type 0
+NoRoom work work′ cells cells′ flex l memo g key = Pushes cells cells′ (rowsIn work cells l) (rowsIn work′ cells l) g (vertexFor work l memo flex key) pushed.Short × Stays work work′ cells l
 
--- what `finish` answers
-abbrev pub Finishes : List ℕ → List ℕ → List ℕ → List ℕ → List ℕ → Copying → Memo → Counts → ℕ → List ℕ → ℕ → Turn → Type 0
-Finishes work work′ cells cells′ flex l memo g p key top (turns.On k g′) = (k ≡ top) × (x : Id) × Finished work work′ cells cells′ flex l memo g p key x g′
-Finishes work work′ cells cells′ flex l memo g p key top turns.Short = Unfinished work work′ cells cells′ flex l memo g key
+-- what `copy_node` answers
+abbrev pub CopiesNode : List ℕ → List ℕ → List ℕ → List ℕ → List ℕ → Copying → Memo → Counts → ℕ → List ℕ → Pushed → Type 0
+CopiesNode work work′ cells cells′ flex l memo g p key (pushed.At x g′) = CopiedTo work work′ cells cells′ flex l memo g p key x g′
+CopiesNode work work′ cells cells′ flex l memo g p key pushed.Short = NoRoom work work′ cells cells′ flex l memo g key

@@ -1,4 +1,4 @@
--- What writing into one region leaves of the others, and what the leaves write.
+-- What is read from the tables, and what is written into them.
 use mathlib.Core.Path.{_≡_, refl, sym, ap, _∙_, subst}
 use mathlib.Core.Bool.{Bool, true, false}
 use mathlib.Core.List.{List, [], _∷_, map}
@@ -8,72 +8,21 @@ use native.Mathlib.Numerals.{add-one}
 use native.Mathlib.Omega.{arith}
 use borrow.Author.Tests.{eqb-true, eqb-false, eq-eqb, ne-eqb}
 use lib.Dec.{eqb}
-use lib.ListN.{length, getD, set, take, drop, length-set, length-map, length-drop, List·getD-eq-default}
+use lib.ListN.{length, getD, set, take, drop, length-map, length-drop, List·getD-eq-default}
 use lib.Seq.{getD-set-same, getD-set-other, getD-drop, take-all}
-use Rattle.definition.specs.Test.{is, see, _and_}
-use Rattle.definition.specs.Store.{isVariable, variableHead, below}
+use Rattle.definition.specs.Test.{is, see}
+use Rattle.definition.specs.Store.{variableHead}
 use Rattle.definition.specs.Good.{Below}
-use Rattle.definition.specs.Classes.{isSome}
-use Rattle.base.specs.Part.{part, put, length-part, part-same, length-put, part-put, put-before, put-at, put-behind, take-copied}
-use Rattle.store.specs.Words.{nodeWith}
+use Rattle.base.specs.Part.{take-copied}
+use Rattle.base.specs.Outside.{Outside, outside-none, outside-set}
 use Rattle.memo.specs.Recall.{known}
 use Rattle.memo.specs.declared.memo.Memo.{Memo}
 use Rattle.memo.specs.declared.memo.Known.{Known}
 use Rattle.memo.specs.declared.memo.Known.the-variants.{Value, Nothing}
-use Rattle.graph.specs.Cells.{markIn}
+use Rattle.graph.specs.Cells.{markIn, marksIn}
 use Rattle.fresh.specs.declared.node.Copying.{Copying}
-use Rattle.fresh.specs.Held.{valueIn, orZero, copyIn, marksIn}
-use Rattle.fresh.specs.Steps.{markAt, Outside, noted, Notes, numberFor}
-
--- ---- words outside of a part
-pub outside-none : (a b : ℕ) (work : List ℕ) → Outside a b work work
-outside-none a b work = record { long = refl; before = λ i h. refl; behind = λ i h. refl }
-
--- one thing written after another
-pub outside-then : (a b : ℕ) (work mid work′ : List ℕ) → Outside a b work mid → Outside a b mid work′ → Outside a b work work′
-outside-then a b work mid work′ A B = record { long = B .long ∙ A .long; before = λ i h. B .before i h ∙ A .before i h; behind = λ i h. B .behind i h ∙ A .behind i h }
-
--- a larger part
-pub outside-wider : (a b c d : ℕ) (work work′ : List ℕ) → c ≤ a → b ≤ d → Outside a b work work′ → Outside c d work work′
-outside-wider a b c d work work′ h k A = record { long = A .long; before = λ i l. A .before i (omega arith); behind = λ i l. A .behind i (omega arith) }
-
--- a word in the part
-pub outside-set : (a b i v : ℕ) (work : List ℕ) → a ≤ i → i < b → Outside a b work (set work i v)
-outside-set a b i v work h k = record {
-  long = length-set work i v;
-  before = λ j l. getD-set-other work i j v 0 (λ e. absurd (omega arith));
-  behind = λ j l. getD-set-other work i j v 0 (λ e. absurd (omega arith));
-}
-
--- a part lent as `&mut work[a..b]`
-module _ (a b : ℕ) (work ys : List ℕ) (up : a ≤ b) (fits : b ≤ length work) (long : length ys ≡ length (part a (b - a) work)) where
-  -- as many words as before
-  many : length ys ≡ b - a
-  many = long ∙ length-part a (b - a) work (omega arith)
-
-  -- beside it nothing has changed
-  pub outside-put : Outside a b work (put a (b - a) ys work)
-  outside-put = record {
-    long = length-put a (b - a) work (omega arith) ys many;
-    before = put-before a (b - a) work (omega arith) ys many;
-    behind = λ i h. put-behind a (b - a) work (omega arith) ys many i (omega arith);
-  }
-
-  -- there it stands
-  pub back : part a (b - a) (put a (b - a) ys work) ≡ ys
-  back = part-put a (b - a) work (omega arith) ys many
-
-  -- word by word
-  pub back-at : (i : ℕ) → i < b - a → getD (put a (b - a) ys work) (a + i) 0 ≡ getD ys i 0
-  back-at = put-at a (b - a) work (omega arith) ys many
-
--- parts beside it stay
-pub part-ahead : (a b c d : ℕ) (work work′ : List ℕ) → Outside a b work work′ → d ≤ a → d ≤ length work → c ≤ d → part c (d - c) work′ ≡ part c (d - c) work
-part-ahead a b c d work work′ A h k u = part-same c (d - c) work′ work (omega (arith, A .long)) (omega arith) (λ i l. A .before (c + i) (omega arith))
-
--- those behind it
-pub part-after : (a b c d : ℕ) (work work′ : List ℕ) → Outside a b work work′ → b ≤ c → d ≤ length work → c ≤ d → part c (d - c) work′ ≡ part c (d - c) work
-part-after a b c d work work′ A h k u = part-same c (d - c) work′ work (omega (arith, A .long)) (omega arith) (λ i l. A .behind (c + i) (omega arith))
+use Rattle.fresh.specs.Held.{valueIn, orZero, copyIn}
+use Rattle.fresh.specs.Steps.{markAt, noted, Notes, numberFor}
 
 -- ---- what the memo has
 pub copy-value : (work : List ℕ) (l : Copying) (memo : Memo) (q v : ℕ) (r : Known) → known r ≡ valueIn work l memo q → r ≡ Value v → v ≡ copyIn work l memo q
@@ -84,23 +33,6 @@ copy-value work l memo q v r e f = let g : valueIn work l memo q ≡ some v = sy
 pub copy-none : (work : List ℕ) (l : Copying) (memo : Memo) (q : ℕ) (r : Known) → known r ≡ valueIn work l memo q → r ≡ Nothing → 0 ≡ copyIn work l memo q
 unfolding copyIn
 copy-none work l memo q r e f = let g : valueIn work l memo q ≡ none = sym e ∙ ap known f in ap orZero (sym g)
-
--- a frame that has taken is not passed
-pub passes-not : (taken : ℕ) (b : Bool) → (taken ≡ 0 → ⊥) → false ≡ (eqb taken 0 and b)
-unfolding _and_
-passes-not taken b h = rw (ne-eqb taken 0 h, _and_)
-
--- a new one is just if the memo has its pattern
-module _ (work : List ℕ) (l : Copying) (memo : Memo) (p taken : ℕ) (r : Known) (z : taken ≡ 0) (e : known r ≡ valueIn work l memo p) where
-  -- it has
-  pub passes-some : (v : ℕ) → r ≡ Value v → true ≡ (eqb taken 0 and isSome (valueIn work l memo p))
-  unfolding _and_ isSome
-  passes-some v f = let g : valueIn work l memo p ≡ some v = sym e ∙ ap known f in rw (eq-eqb taken 0 z, g)
-
-  -- it has not
-  pub passes-none : r ≡ Nothing → false ≡ (eqb taken 0 and isSome (valueIn work l memo p))
-  unfolding _and_ isSome
-  passes-none f = let g : valueIn work l memo p ≡ none = sym e ∙ ap known f in rw (eq-eqb taken 0 z, g)
 
 -- ---- arguments gathered
 pub gather-more : (f : ℕ → ℕ) (key args : List ℕ) (i v : ℕ) → i + 1 < length key → i < length args → v ≡ f (getD key (i + 1) 0) → take i args ≡ take i (map f (drop 1 key)) → take (i + 1) (set args i v) ≡ take (i + 1) (map f (drop 1 key))
@@ -149,7 +81,7 @@ module _ (work flex : List ℕ) (l : Copying) (k x : ℕ) (marks : l .variables 
   -- a variable of the class
   pub note-set : k < length flex → Outside (l .variables) (l .graph) work (set work (l .variables + k) (x + 1)) × Notes work (set work (l .variables + k) (x + 1)) flex l (some k) x
   note-set h = (
-    outside-set (l .variables) (l .graph) (l .variables + k) (x + 1) work (omega arith) (omega arith),
+    outside-set (l .variables) (l .graph) work (l .variables + k) (x + 1) (omega arith) (omega arith),
     λ j b. elim (see (eqb k j)) [
       | is true e ↦ let q : j ≡ k = sym (eqb-true k j e) in rw (e, noted) (ap (λ (i : ℕ). getD (set work (l .variables + k) (x + 1)) (l .variables + i) 0) q ∙ getD-set-same work (l .variables + k) (x + 1) 0 (omega arith) ∙ add-one x)
       | is false e ↦ rw (e, noted) (getD-set-other work (l .variables + k) (l .variables + j) (x + 1) 0 (λ q. absurd (eqb-false k j e (omega arith))))
@@ -173,13 +105,3 @@ module _ (work work′ flex : List ℕ) (l : Copying) (key : List ℕ) (x : ℕ)
   -- no variable
   pub notes-other : (getD key 0 0 ≡ variableHead → ⊥) → Outside (l .variables) (l .graph) work work′ × Notes work work′ flex l none x → Outside (l .variables) (l .graph) work work′ × Notes work work′ flex l (numberFor key) x
   notes-other e N = subst NotesBy (sym (ne-eqb (getD key 0 0) variableHead e)) N
-
--- how many nodes stand below a key's
-pub kids-variable : (key : List ℕ) → getD key 0 0 ≡ variableHead → 0 ≡ length (below (nodeWith key))
-unfolding below nodeWith isVariable
-kids-variable key e = let f = eq-eqb (getD key 0 0) variableHead e in rw (f, below)
-
--- an application's arguments
-pub kids-applied : (key : List ℕ) → (getD key 0 0 ≡ variableHead → ⊥) → length key - 1 ≡ length (below (nodeWith key))
-unfolding below nodeWith isVariable
-kids-applied key e = let f = ne-eqb (getD key 0 0) variableHead e in rw (f, below) (sym (length-drop 1 key))

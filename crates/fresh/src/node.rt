@@ -8,17 +8,15 @@ use memo::memo::Memo;
 ghost use mathlib.Core.Path.{_≡_};
 ghost use mathlib.Core.List.{map};
 ghost use Prim.Native.Nat.{_+_, _-_, _*_, _≤_, _<_};
-ghost use lib.Dec.{eqb};
 ghost use lib.ListN.{length, getD, take, drop};
-ghost use Rattle.definition.specs.Test.{_and_};
 ghost use Rattle.definition.specs.Store.{variableHead};
 ghost use Rattle.definition.specs.Graph.{variableVertex, applied};
-ghost use Rattle.definition.specs.Classes.{isSome};
+ghost use Rattle.base.specs.Outside.{Outside};
 ghost use Rattle.memo.specs.Recall.{recall, Remembers};
 ghost use Rattle.graph.specs.Cells.{markIn};
 ghost use Rattle.graph.specs.Links.{Holds};
-ghost use Rattle.fresh.specs.Held.{tableIn, rowsIn, valueIn, copyIn, Apart};
-ghost use Rattle.fresh.specs.Steps.{markAt, Arguments, Key, Outside, Notes, Grows, vertexFor, numberFor, Finishes};
+ghost use Rattle.fresh.specs.Held.{tableIn, rowsIn, copyIn, Apart};
+ghost use Rattle.fresh.specs.Steps.{markAt, Arguments, Key, Notes, Grows, vertexFor, numberFor, CopiesNode};
 
 // Where copying has its tables in work: the store's index; what pattern nodes were copied to, a memo of two words each; the walk's
 // stack, two words for each; a word for each variable of the class, its graph node and one or 0; the graph's table.
@@ -31,18 +29,6 @@ pub struct Copying {
     pub end: usize,
 }
 
-// The node that the pattern was copied to, the graph with it and the memo as it is then; or that the cells have no room.
-pub enum Copied {
-    At(Node, Graph, Memo),
-    Short,
-}
-
-// So many frames stand on the stack, and the graph as it is then; or the cells have no room.
-pub enum Turn {
-    On(usize, Graph),
-    Short,
-}
-
 // What pattern `q` was copied to, or 0.
 pub fn copy_of(work: &[u32], l: Copying, memo: Memo, q: u32) -> u32
     requires { ⌜ (l .copied ≤ l .walk) × (l .walk ≤ length (now work)) × (q < length (recall (tableIn (now work) l) memo)) ⌝ }
@@ -53,23 +39,6 @@ pub fn copy_of(work: &[u32], l: Copying, memo: Memo, q: u32) -> u32
     match memo.get(&work[from..to], q as usize) {
         Known::Value(v) => v,
         Known::Nothing => 0,
-    }
-}
-
-// Whether the frame at `at` is new and its pattern was copied before.
-pub fn passes(work: &[u32], l: Copying, memo: Memo, at: usize) -> bool
-    requires { ⌜ (l .copied ≤ l .walk) × (l .walk ≤ length (now work)) × (at + 1 < length (now work)) × (getD (now work) at 0 < length (recall (tableIn (now work) l) memo)) ⌝ }
-    ensures { λ r. ⌜ r ≡ (eqb (getD (now (work .entry)) (at + 1) 0) 0 and isSome (valueIn (now (work .entry)) l memo (getD (now (work .entry)) at 0))) ⌝ }
-{
-    if work[at + 1] != 0 {
-        return false;
-    }
-    let p = work[at];
-    let from = l.copied;
-    let to = l.walk;
-    match memo.get(&work[from..to], p as usize) {
-        Known::Value(_) => true,
-        Known::Nothing => false,
     }
 }
 
@@ -151,8 +120,8 @@ fn copy_application(
     g.push(cells, &mut work[from..to], key[0], &args[0..n])
 }
 
-// The node with a key, copied.
-fn copy_node(
+// A copy of the node with a key.
+fn push_copy(
     work: &mut [u32],
     cells: &mut [u32],
     l: Copying,
@@ -170,8 +139,8 @@ fn copy_node(
     copy_application(work, cells, l, memo, g, key)
 }
 
-// Pattern `p` with a key, the frame of which stood above `top` others, is copied, and the memo and the variables' words say so.
-pub fn finish(
+// Pattern `p` with a key is copied, and the memo and the variables' words say so.
+pub fn copy_node(
     work: &mut [u32],
     cells: &mut [u32],
     l: Copying,
@@ -180,19 +149,18 @@ pub fn finish(
     flex: &[u32],
     p: Pattern,
     key: &[u32],
-    top: usize,
-) -> Turn
+) -> Pushed
     requires { ⌜ Apart (now work) (now cells) (now flex) l × Holds (now cells) (rowsIn (now work) (now cells) l) g × Key (now work) l memo (now key) × Remembers (tableIn (now work) l) memo × (p .0 < length (recall (tableIn (now work) l) memo)) ⌝ }
-    ensures { λ r. ⌜ Finishes (now (work .entry)) (now (work .exit)) (now (cells .entry)) (now (cells .exit)) (now (flex .entry)) l memo g (p .0) (now (key .entry)) top r ⌝ }
+    ensures { λ r. ⌜ CopiesNode (now (work .entry)) (now (work .exit)) (now (cells .entry)) (now (cells .exit)) (now (flex .entry)) l memo g (p .0) (now (key .entry)) r ⌝ }
 {
-    match copy_node(work, cells, l, memo, g, flex, key) {
+    match push_copy(work, cells, l, memo, g, flex, key) {
         Pushed::At(x, h) => {
             note(work, l, flex, key, x);
             let from = l.copied;
             let to = l.walk;
             memo.insert(&mut work[from..to], p.0 as usize, x.0);
-            Turn::On(top, h)
+            Pushed::At(x, h)
         }
-        Pushed::Short => Turn::Short,
+        Pushed::Short => Pushed::Short,
     }
 }

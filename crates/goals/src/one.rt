@@ -1,5 +1,4 @@
 // One goal: its result, that one's class, and the instance test.
-use base::id::Ground;
 use base::id::Pattern;
 use catalog::whole::Catalog;
 use instance::tables::Instance;
@@ -61,7 +60,7 @@ pub fn test_goal(
             let f = first_of(pack, work, c, k.at, s);
             let p = conclusion_of(work, class, l, f);
             let m = goal_judgment(pack, work, c, g);
-            match instance(pack, work, words, c, t, st, seen, values, p, Ground(m)) {
+            match instance(pack, work, words, c, t, st, seen, values, p, m) {
                 Matched::Yes(seen, values) => {
                     return Goal::Met(seen, values);
                 }

@@ -3,7 +3,7 @@
 -- whether it is rigid.
 use mathlib.Core.Path.{_≡_, refl, sym, ap, ap₂, subst, _∙_}
 use mathlib.Core.Bool.{Bool, true, false}
-use mathlib.Core.List.{List, [], _∷_, _++_}
+use mathlib.Core.List.{List, [], _∷_, _++_, map}
 use mathlib.Core.Option.{Option, none, some}
 use Prim.Native.Nat.{ℕ, zero, suc, _+_, _*_, _-_, _≤_, _<_}
 use native.Mathlib.Omega.{arith}
@@ -45,6 +45,10 @@ linkIn (suc y) = some y
 abbrev pub markIn : ℕ → Bool
 markIn zero = false
 markIn (suc m) = true
+
+-- a class's marks
+abbrev pub marksIn : List ℕ → List Bool
+marksIn flex = map markIn flex
 
 -- a node's arguments end where the next node starts
 unfoldable pub vertexIn : List ℕ → List ℕ → ℕ → Vertex

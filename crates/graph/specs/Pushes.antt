@@ -2,7 +2,7 @@
 use mathlib.Core.Path.{_≡_, refl, sym, ap, ap₂, subst, _∙_}
 use mathlib.Core.List.{List, [], _∷_, _++_}
 use mathlib.Core.Option.{none}
-use Prim.Native.Nat.{ℕ, zero, suc, _+_, _*_, _-_, _≤_, _<_}
+use Prim.Native.Nat.{ℕ, suc, _+_, _*_, _-_, _≤_, _<_}
 use native.Mathlib.Omega.{arith}
 use native.Mathlib.Decide.{ℕ-discrete}
 use lib.ListN.{length, getD, set, length-set}
@@ -15,7 +15,7 @@ use Rattle.theory.specs.Unification.Like.{Like, like-same, like-more, same-vert
 use Rattle.graph.specs.declared.graph.Graph.{Graph as Counts}
 use Rattle.graph.specs.declared.graph.Pushed.{Pushed}
 use Rattle.graph.specs.declared.graph.Pushed.the-variants.{At, Short}
-use Rattle.graph.specs.Cells.{startIn, linkWord, restAt, sortWord, flexWord, rigidWord, markIn, vertexIn, graphIn, length-graphIn, graph-kept, rowsEnd, Laid, Shows, nodes-few, cells-used, Unchanged, unchanged-then, unchanged-set}
+use Rattle.graph.specs.Cells.{startIn, linkWord, restAt, sortWord, flexWord, rigidWord, markIn, vertexIn, graphIn, length-graphIn, graph-kept, rowsEnd, Laid, Shows, cells-used, Unchanged, unchanged-then, unchanged-set}
 
 -- ---- no node
 pub shows-none : (words table : List ℕ) → 5 * length words + 5 ≤ length table → length words < 4294967295 → startIn table 0 ≡ 0 → Shows words table (record { nodes = 0; used = 0 }) []

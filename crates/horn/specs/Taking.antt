@@ -14,7 +14,7 @@ use Rattle.definition.specs.Pack.{Pack}
 use Rattle.definition.specs.Laws.Decide.{names-any, names-none}
 use Rattle.definition.specs.Frame.{Checked, good, bad, over}
 use Rattle.region.specs.Place.{Place, noPlace, endOf, keyAt, bodyAt}
-use Rattle.catalog.specs.Whole.{recordsOf, keyedKind, cap-room, Cataloged, Outside, More, EnteringIn, EntersIn, FindsIn}
+use Rattle.catalog.specs.Whole.{recordsOf, keyedKind, cap-room, Cataloged, Beside, More, EnteringIn, EntersIn, FindsIn}
 use Rattle.region.specs.declared.region.Entered.the-variants.{New, Old}
 use Rattle.catalog.specs.declared.whole.Catalog.{Catalog}
 use Rattle.pack.specs.Reads.{Reads, OneMore}
@@ -59,7 +59,7 @@ key-at bytes body at k W h =
 -- a record of kind k was taken up: it is behind the others of its kind, nothing else has changed, and the reader is ahead of the next one
 pub record TakenUp (bytes work work′ : List ℕ) (c : Catalog) (k end : ℕ) (take : Pack → Checked Pack) : Type 0 where
   pub reading : Reading bytes work′ c end
-  pub outside : Outside work work′ c
+  pub outside : Beside work work′ c
   pub place : Place
   pub more : OneMore (recordsOf work c) (recordsOf work′ c) k place
   pub says : (P : Pack) → Reads bytes (recordsOf work c) P → (Q : Pack) × (take P ≡ good Q) × Reads bytes (recordsOf work′ c) Q

@@ -7,8 +7,9 @@ use native.Mathlib.Omega.{arith}
 use lib.ListN.{length, getD, set, take, drop, replicate, length-set}
 use lib.Seq.{getD-set-same, getD-set-other}
 use Rattle.definition.specs.Graph.{Pair}
-use Rattle.base.specs.Outside.{Outside, outside-wider, outside-put, part-ahead, part-behind}
-use Rattle.base.specs.Part.{part, put, length-part, part-put}
+use Rattle.base.specs.Outside.{Outside}
+use Rattle.base.specs.Lent.{lent-ahead, lent-behind as behind, back, back-outside as outside}
+use Rattle.base.specs.Part.{part, put, length-part}
 use Rattle.theory.specs.Walks.Ahead.{beside}
 use Rattle.memo.specs.Recall.{recall, Remembers}
 use Rattle.memo.specs.declared.memo.Memo.{Memo}
@@ -25,27 +26,24 @@ lent-long a e xs h k = length-part a (e - a) xs (omega arith)
 -- a part ahead of what was written
 pub lent-before : (a e : ℕ) (work work′ : List ℕ) → Outside a e work work′ → (b f : ℕ) → b ≤ f → f ≤ a → f ≤ length work → lent b f work′ ≡ lent b f work
 unfolding part
-lent-before a e work work′ A b f h k m = part-ahead a e work work′ A b (f - b) (omega arith) (omega arith)
+lent-before = lent-ahead
 
 -- a part behind it
 pub lent-behind : (a e : ℕ) (work work′ : List ℕ) → Outside a e work work′ → (b f : ℕ) → b ≤ f → e ≤ b → f ≤ length work → lent b f work′ ≡ lent b f work
 unfolding part
-lent-behind a e work work′ A b f h k m = part-behind a e work work′ A b (f - b) (omega arith) (omega arith)
+lent-behind = behind
 
 -- a part that came back
 module _ (a e : ℕ) (xs : List ℕ) (h : a ≤ e) (k : e ≤ length xs) (ys : List ℕ) (long : length ys ≡ length (lent a e xs)) where
-  -- it has its length
-  back-long : length ys ≡ e - a
-  back-long = long ∙ lent-long a e xs h k
-
   -- it stands there
   pub back-lent : lent a e (put a (e - a) ys xs) ≡ ys
   unfolding part
-  back-lent = part-put a (e - a) xs (omega arith) ys back-long
+  back-lent = back a e xs ys h k long
 
   -- and nothing else has changed
   pub back-outside : Outside a e xs (put a (e - a) ys xs)
-  back-outside = outside-wider a (a + (e - a)) a e xs (put a (e - a) ys xs) (omega arith) (omega arith) (outside-put a (e - a) xs ys (omega arith) back-long)
+  unfolding part
+  back-outside = outside a e xs ys h k long
 
 -- ---- memos
 -- what a memo from a up to e has for a number

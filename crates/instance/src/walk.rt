@@ -60,8 +60,8 @@ fn push_arguments(
     while 0 < i {
         i -= 1;
         let x = st.argument(&work[a..e], words, p, i);
-        let m = node_argument(pack, work, c, n.0 as usize, i);
-        put_pair(work, l, on, Pattern(x), Ground(m));
+        let m = node_argument(pack, work, c, n, i);
+        put_pair(work, l, on, Pattern(x), m);
         on += 1;
     }
     on
@@ -101,13 +101,13 @@ fn descend(
     requires { ⌜ Bare (now pack) (now work) (now words) c l st seen values top (p .0) (n .0) head ⌝ }
     ensures { λ t. ⌜ Takes (now (pack .entry)) (now (work .entry)) (now (work .exit)) (now (words .entry)) c l st seen values top (p .0) (n .0) t ⌝ }
 {
-    if node_head(pack, work, c, n.0 as usize) != head {
+    if node_head(pack, work, c, n) != head {
         return Turn::Unlike;
     }
     let a = l.index;
     let e = l.pairs;
     let k = st.arity(&work[a..e], words, p);
-    if node_arity(pack, work, c, n.0 as usize) != k {
+    if node_arity(pack, work, c, n) != k {
         return Turn::Unlike;
     }
     let from = l.seen;

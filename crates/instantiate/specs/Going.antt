@@ -1,5 +1,5 @@
 -- The words of a term, one after the other: what holds behind each.
-use mathlib.Core.Path.{_≡_, refl, sym, ap, subst, _∙_}
+use mathlib.Core.Path.{_≡_, refl, sym, subst, _∙_}
 use mathlib.Core.List.{List}
 use Prim.Native.Nat.{ℕ, suc, _+_, _-_, _≤_, _<_}
 use native.Mathlib.Omega.{arith}
@@ -8,6 +8,7 @@ use Rattle.definition.specs.Pack.{Term, Pack}
 use Rattle.definition.specs.Good.{Below}
 use Rattle.definition.specs.Graph.{Graph}
 use Rattle.definition.specs.Laws.Prefix.{termWords}
+use Rattle.base.specs.Outside.{outside-none, outside-then}
 use Rattle.base.specs.declared.id.Node.{Node}
 use Rattle.catalog.specs.Same.{Same}
 use Rattle.catalog.specs.Whole.{recordsOf}
@@ -16,16 +17,16 @@ use Rattle.pack.specs.Reads.{Reads}
 use Rattle.pack.specs.Held.{Proper, held-on, reads-on}
 use Rattle.graph.specs.declared.graph.Graph.{Graph as Counts}
 use Rattle.graph.specs.declared.graph.Pushed.the-variants.{At, Short}
-use Rattle.graph.specs.Cells.{Shows}
+use Rattle.graph.specs.Cells.{rowsEnd, Shows}
 use Rattle.graph.specs.Inner.{Inner}
 use Rattle.instantiate.specs.declared.terms.Place.{Place}
 use Rattle.instantiate.specs.declared.terms.Taken.the-variants.{On, Short as Full}
-use Rattle.instantiate.specs.Building.{Spells, tableIn, Room, Outside, outside-none, outside-then, outside-same, Built, Taking, Takes, Asked, Instantiates}
+use Rattle.instantiate.specs.Building.{Spells, tableIn, Room, Beside, beside-same, Built, Taking, Takes, Asked, Instantiates}
 use Rattle.instantiate.specs.Whole.{built-none, cells-grow, built-all}
 
 -- the words from i on were taken
 pub record Going (bytes before cells₀ : List ℕ) (c : Catalog) (l : Place) (g : Counts) (env : List ℕ) (from to : ℕ) (work cells stack : List ℕ) (top i : ℕ) (h : Counts) : Type 0 where
-  pub outside : Outside before work cells₀ l
+  pub outside : Beside before work cells₀ l
   pub many : length cells ≡ length cells₀
   pub long : length stack ≡ 256
   pub low : from ≤ i
@@ -36,7 +37,7 @@ module _ (bytes before cells₀ : List ℕ) (c : Catalog) (l : Place) (g : Count
   -- none of them
   pub going-first : (stack : List ℕ) → length stack ≡ 256 → Going bytes before cells₀ c l g env from to before cells₀ stack 256 to g
   going-first stack long = record {
-    outside = outside-none before cells₀ l;
+    outside = outside-none (l .at) (l .at + rowsEnd cells₀) before;
     many = refl;
     long = long;
     low = omega (arith, A .spells .long);
@@ -48,7 +49,7 @@ module _ (bytes before cells₀ : List ℕ) (c : Catalog) (l : Place) (g : Count
 
   module _ (work cells stack : List ℕ) (top i : ℕ) (h : Counts) (G : Going bytes before cells₀ c l g env from to work cells stack top i h) where
     same : Same before work c
-    same = outside-same before work cells₀ c l (A .room) (G .outside)
+    same = beside-same before work cells₀ c l (A .room) (G .outside)
 
     -- the table is as long as it was, over as many cells
     room : Room work cells c l
@@ -85,7 +86,7 @@ module _ (bytes before cells₀ : List ℕ) (c : Catalog) (l : Place) (g : Count
       module _ (work′ cells′ stack′ : List ℕ) (long : length stack′ ≡ length stack) (many : length cells′ ≡ length cells) where
         pub going-on : (top′ : ℕ) (h′ : Counts) → Takes bytes work work′ cells cells′ c l h env stack stack′ top (i - 1) (On top′ h′) → Going bytes before cells₀ c l g env from to work′ cells′ stack′ top′ (i - 1) h′
         going-on top′ h′ M = record {
-          outside = outside-then before work work′ cells₀ l (G .outside) (record { long = M .0 .long; ahead = M .0 .ahead; beyond = λ k q. M .0 .beyond k (omega (arith, q, G .many)) });
+          outside = outside-then (l .at) (l .at + rowsEnd cells₀) before work work′ (G .outside) (record { long = M .0 .long; ahead = M .0 .ahead; behind = λ k q. M .0 .behind k (omega (arith, q, G .many)) });
           many = many ∙ G .many;
           long = long ∙ G .long;
           low = omega (arith, some);

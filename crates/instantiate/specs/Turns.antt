@@ -1,63 +1,45 @@
 -- One word of a rule's term taken, and all of them.
-use mathlib.Core.Path.{_≡_, refl, sym, ap, ap₂, subst, _∙_}
-use mathlib.Core.List.{List, [], _∷_, _++_, append-nil}
-use Prim.Native.Nat.{ℕ, zero, suc, _+_, _*_, _-_, _≤_, _<_}
+use mathlib.Core.Path.{_≡_, refl, sym, ap, ap₂, _∙_}
+use mathlib.Core.List.{List, [], _∷_, _++_}
+use Prim.Native.Nat.{ℕ, suc, _+_, _-_, _≤_, _<_}
 use native.Mathlib.Omega.{arith}
-use native.Mathlib.Decide.{decLt}
-use lib.ListN.{length, getD, set, take, drop, length-set, length-append, length-drop}
+use lib.ListN.{length, getD, set, take, drop, length-set, length-append}
 use lib.Seq.{drop-cons, drop-drop, drop-set-lt, getD-set-same, take-append-seam, drop-append-seam}
-use Rattle.definition.specs.Test.{never}
-use Rattle.definition.specs.Pack.{Term, Terms, var, app, nil, cons, Pack, symbolOf, ruleOf}
+use Rattle.definition.specs.Pack.{Term, app, nil, cons, Pack, symbolOf, ruleOf}
 use Rattle.definition.specs.Theory.{variable}
-use Rattle.definition.specs.Good.{Sorted, SortedAll, Below, Few}
+use Rattle.definition.specs.Good.{SortedAll, Below, Few}
 use Rattle.definition.specs.Laws.Grow.{below-more, below-at}
-use Rattle.definition.specs.Graph.{Vertex, Graph, applied, push, cells as cellsOf}
-use Rattle.definition.specs.Analysis.{GrownAll, instantiate, instantiateAll}
+use Rattle.definition.specs.Graph.{Graph, applied, push, cells as cellsOf}
+use Rattle.definition.specs.Analysis.{GrownAll}
 use Rattle.definition.specs.Laws.Prefix.{termWords, termsWords}
-use Rattle.base.specs.Part.{part, put, length-part, part-at, part-put, length-put, put-before, put-behind, put-at}
+use Rattle.base.specs.Lent.{back as lent-back, back-first}
+use Rattle.base.specs.Part.{put}
 use Rattle.base.specs.declared.id.Node.{Node}
-use Rattle.catalog.specs.Same.{endOf}
 use Rattle.catalog.specs.declared.whole.Catalog.{Catalog}
 use Rattle.pack.specs.Reads.{ruleWords}
 use Rattle.graph.specs.declared.graph.Graph.{Graph as Counts}
 use Rattle.graph.specs.declared.graph.Pushed.the-variants.{At, Short}
 use Rattle.graph.specs.Cells.{rowsEnd, Shows, Unchanged, cells-more}
 use Rattle.graph.specs.Pushes.{Pushes}
-use Rattle.graph.specs.Inner.{Inner, inner-more}
+use Rattle.graph.specs.Inner.{inner-more}
 use Rattle.instantiate.specs.declared.terms.Place.{Place}
 use Rattle.definition.specs.Laws.Suffix.{after, Ahead, a-variable, a-symbol, after-ahead, all-words}
 use Rattle.instantiate.specs.Suffix.{after-few, nodes-many, variable-nodes, symbol-nodes}
-use Rattle.instantiate.specs.Building.{Spells, tableIn, Room, Outside, nodesOf, Built}
+use Rattle.instantiate.specs.Building.{Spells, tableIn, Room, Beside, nodesOf, Built}
 
 -- ---- the table was lent and came back
 module _ (work cells table′ : List ℕ) (c : Catalog) (l : Place) (R : Room work cells c l) (U : Unchanged (rowsEnd cells) (tableIn work l) table′) where
   abbrev back : List ℕ
   back = put (l .at) (l .end - l .at) table′ work
 
-  fits : l .at + (l .end - l .at) ≤ length work
-  fits = omega (arith, R .fits, R .within)
-
-  many : length table′ ≡ l .end - l .at
-  many = U .long ∙ length-part (l .at) (l .end - l .at) work fits
+  up : l .at ≤ l .end
+  up = omega (arith, R .fits)
 
   pub lent-table : tableIn back l ≡ table′
-  lent-table = part-put (l .at) (l .end - l .at) work fits table′ many
+  lent-table = lent-back (l .at) (l .end) work table′ up (R .within) (U .long)
 
-  pub lent-long : length back ≡ length work
-  lent-long = length-put (l .at) (l .end - l .at) work fits table′ many
-
-  pub lent-outside : Outside work back cells l
-  lent-outside = record {
-    long = lent-long;
-    ahead = λ i h. put-before (l .at) (l .end - l .at) work fits table′ many i h;
-    beyond = λ i h. elim (decLt i (l .end)) [
-      | yes b ↦
-          let k : ℕ = i - l .at in
-          let e : i ≡ l .at + k = omega (arith, h) in
-          ap (λ (j : ℕ). getD back j 0) e ∙ put-at (l .at) (l .end - l .at) work fits table′ many k (omega (arith, b, h)) ∙ U .words k (omega (arith, h)) ∙ part-at (l .at) (l .end - l .at) work k (omega (arith, b, h)) ∙ ap (λ (j : ℕ). getD work j 0) (sym e)
-      | no b ↦ put-behind (l .at) (l .end - l .at) work fits table′ many i (omega (arith, b, R .fits))
-    ];
-  }
+  pub lent-outside : Beside work back cells l
+  lent-outside = back-first (l .at) (l .end) work table′ up (R .within) (U .long) (rowsEnd cells) (U .words)
 
 -- a word put in front of the stack's top
 on-top : (stack : List ℕ) (at v : ℕ) → at < length stack → drop at (set stack at v) ≡ v ∷ drop (suc at) stack

@@ -1,14 +1,14 @@
 -- A rule's variables as the first nodes of a graph.
-use mathlib.Core.Path.{_≡_, refl, sym, ap, ap₂, subst, _∙_}
+use mathlib.Core.Path.{_≡_, refl, sym, ap, _∙_}
 use mathlib.Core.Bool.{false}
 use mathlib.Core.List.{List, [], _∷_, _++_, map}
-use Prim.Native.Nat.{ℕ, zero, suc, _+_, _-_, _≤_, _<_}
+use Prim.Native.Nat.{ℕ, suc, _+_, _-_, _≤_, _<_}
 use native.Mathlib.Omega.{arith}
-use lib.ListN.{length, getD, take, length-append, length-map}
+use lib.ListN.{length, getD, take}
 use lib.Seq.{take-suc, take-length, length-take-le}
 use Rattle.definition.specs.Pack.{Pack, ruleOf}
-use Rattle.definition.specs.Good.{Below}
 use Rattle.definition.specs.Graph.{Vertex, Graph, variableVertex, cells as cellsOf}
+use Rattle.base.specs.Outside.{outside-none, outside-then}
 use Rattle.catalog.specs.Whole.{recordsOf}
 use Rattle.catalog.specs.Same.{Same}
 use Rattle.catalog.specs.declared.whole.Catalog.{Catalog}
@@ -24,7 +24,7 @@ use Rattle.base.specs.declared.id.Node.{Node}
 use Rattle.instantiate.specs.declared.terms.Place.{Place}
 use Rattle.instantiate.specs.declared.variables.Opened.{Opened}
 use Rattle.instantiate.specs.declared.variables.Opened.the-variants.{On, Short as Full}
-use Rattle.instantiate.specs.Building.{tableIn, Room, Outside, outside-none, outside-then, outside-same}
+use Rattle.instantiate.specs.Building.{tableIn, Room, Beside, beside-same}
 use Rattle.instantiate.specs.Turns.{lent-table, lent-outside}
 
 -- variables of these sorts, neither flexible nor rigid
@@ -42,7 +42,7 @@ pub record Opening (bytes work cells : List ℕ) (c : Catalog) (l : Place) : Typ
 -- what is answered: a graph of the variables alone, or that they are more than there are cells
 abbrev pub Opens : List ℕ → List ℕ → List ℕ → List ℕ → List ℕ → Catalog → Place → Opened → Type 0
 Opens bytes work work′ cells cells′ c l (On g) =
-    Outside work work′ cells l
+    Beside work work′ cells l
     × ((P : Pack) → Reads bytes (recordsOf work c) P → Proper P → l .vars ≡ length (ruleOf P (l .rule) .vars) → Shows cells′ (tableIn work′ l) g (variablesOf (ruleOf P (l .rule) .vars)) × Inner (variablesOf (ruleOf P (l .rule) .vars)))
 Opens bytes work work′ cells cells′ c l Full = (P : Pack) → Reads bytes (recordsOf work c) P → Proper P → l .vars ≡ length (ruleOf P (l .rule) .vars) → length cells < cellsOf (variablesOf (ruleOf P (l .rule) .vars))
 
@@ -66,18 +66,18 @@ variables-cells (s ∷ sorts) = let ih = variables-cells sorts in omega arith
 
 -- ---- the first k variables are there; before: the words as the loop began
 pub record First (bytes before cells₀ : List ℕ) (c : Catalog) (l : Place) (work cells : List ℕ) (g : Counts) (k : ℕ) : Type 0 where
-  pub outside : Outside before work cells₀ l
+  pub outside : Beside before work cells₀ l
   pub many : length cells ≡ length cells₀
   pub low : k ≤ l .vars
   pub shows : (P : Pack) → Reads bytes (recordsOf before c) P → l .vars ≡ length (ruleOf P (l .rule) .vars)
       → Shows cells (tableIn work l) g (variablesOf (take k (ruleOf P (l .rule) .vars))) × Inner (variablesOf (take k (ruleOf P (l .rule) .vars)))
 
 pub first-none : (bytes before cells₀ : List ℕ) (c : Catalog) (l : Place) (g : Counts) → Shows cells₀ (tableIn before l) g [] → First bytes before cells₀ c l before cells₀ g 0
-first-none bytes before cells₀ c l g S = record { outside = outside-none before cells₀ l; many = refl; low = omega arith; shows = λ P R e. (S, λ x h. absurd (omega arith)) }
+first-none bytes before cells₀ c l g S = record { outside = outside-none (l .at) (l .at + rowsEnd cells₀) before; many = refl; low = omega arith; shows = λ P R e. (S, λ x h. absurd (omega arith)) }
 
 module _ (bytes before cells₀ : List ℕ) (c : Catalog) (l : Place) (H : Held bytes before c) (R₀ : Room before cells₀ c l) (work cells : List ℕ) (g : Counts) (k : ℕ) (F : First bytes before cells₀ c l work cells g k) where
   pub first-same : Same before work c
-  first-same = outside-same before work cells₀ c l R₀ (F .outside)
+  first-same = beside-same before work cells₀ c l R₀ (F .outside)
 
   -- the pack is held still, and the table has its room
   abbrev pub first-held : Held bytes work c
@@ -98,7 +98,7 @@ module _ (bytes before cells₀ : List ℕ) (c : Catalog) (l : Place) (H : Held 
     first-more many x g′ M =
         let U = lent-outside work cells table′ c l first-room (M .1) in
         record {
-          outside = outside-then before work back cells₀ l (F .outside) (record { long = U .long; ahead = U .ahead; beyond = λ i h. U .beyond i (omega (arith, h, F .many)) });
+          outside = outside-then (l .at) (l .at + rowsEnd cells₀) before work back (F .outside) (record { long = U .long; ahead = U .ahead; behind = λ i h. U .behind i (omega (arith, h, F .many)) });
           many = many ∙ F .many;
           low = omega (arith, some);
           shows = λ P R e.
@@ -134,11 +134,11 @@ module _ (bytes work cells table′ : List ℕ) (c : Catalog) (l : Place) (A : O
   abbrev none : List ℕ
   none = put (l .at) (l .end - l .at) table′ work
 
-  none-outside : Outside work none cells l
+  none-outside : Beside work none cells l
   none-outside = lent-outside work cells table′ c l (A .room) U
 
   pub none-same : Same work none c
-  none-same = outside-same work none cells c l (A .room) none-outside
+  none-same = beside-same work none cells c l (A .room) none-outside
 
   abbrev pub none-held : Held bytes none c
   none-held = held-on bytes work none c none-same (A .held)
@@ -150,7 +150,7 @@ module _ (bytes work cells table′ : List ℕ) (c : Catalog) (l : Place) (A : O
   none-shows g S = rw (lent-table work cells table′ c l (A .room) U) S
 
   pub opens-on : (work′ cells′ : List ℕ) (g : Counts) → Opens bytes none work′ cells cells′ c l (On g) → Opens bytes work work′ cells cells′ c l (On g)
-  opens-on work′ cells′ g O = (outside-then work none work′ cells l none-outside (O .0), λ P R Q e. O .1 P (reads-on bytes work none c none-same (A .held .cataloged) P R) Q e)
+  opens-on work′ cells′ g O = (outside-then (l .at) (l .at + rowsEnd cells) work none work′ none-outside (O .0), λ P R Q e. O .1 P (reads-on bytes work none c none-same (A .held .cataloged) P R) Q e)
 
   pub opens-full : (work′ cells′ : List ℕ) → Opens bytes none work′ cells cells′ c l Full → Opens bytes work work′ cells cells′ c l Full
   opens-full work′ cells′ O P R Q e = O P (reads-on bytes work none c none-same (A .held .cataloged) P R) Q e

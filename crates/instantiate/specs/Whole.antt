@@ -1,12 +1,12 @@
 -- A whole term: nothing is built ahead of its last word, and all of it behind its first.
-use mathlib.Core.Path.{_≡_, refl, sym, ap, subst, _∙_}
-use mathlib.Core.List.{List, [], _∷_, _++_}
-use Prim.Native.Nat.{ℕ, zero, suc, _+_, _-_, _≤_, _<_}
+use mathlib.Core.Path.{_≡_, refl, sym, ap, _∙_}
+use mathlib.Core.List.{List, [], _∷_}
+use Prim.Native.Nat.{ℕ, zero, suc, _≤_, _<_}
 use native.Mathlib.Omega.{arith}
-use lib.ListN.{length, getD, drop, length-append, drop-of-length-le}
+use lib.ListN.{length, getD, drop, drop-of-length-le}
 use lib.Seq.{drop-cons}
-use Rattle.definition.specs.Pack.{Term, Terms, var, app, nil, cons, Pack, ruleOf}
-use Rattle.definition.specs.Good.{SortedAll, Below}
+use Rattle.definition.specs.Pack.{Term, Terms, nil, cons, Pack, ruleOf}
+use Rattle.definition.specs.Good.{Below}
 use Rattle.definition.specs.Graph.{Graph, applied, push, cells as cellsOf}
 use Rattle.definition.specs.Analysis.{GrownAll, instantiate, instantiateAll}
 use Rattle.definition.specs.Laws.Prefix.{termWords, termsWords}

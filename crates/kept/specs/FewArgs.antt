@@ -14,7 +14,7 @@ use Rattle.definition.specs.Store.{isVariable}
 use Rattle.definition.specs.Graph.{Vertex, Graph, variableVertex, applied, vertex, push, unify}
 use Rattle.definition.specs.Analysis.{Copy, copied, copyNode, copyAll, copy, parts, instantiate, instantiateAll}
 use Rattle.theory.specs.Unification.Solve.{SameNodes}
-use Rattle.fresh.specs.Held.{Patterns}
+use Rattle.theory.specs.Copies.Terms.{Patterns}
 use Rattle.kept.specs.Unified.{unify-same}
 
 -- at most 16 each

@@ -17,7 +17,7 @@ use Rattle.definition.specs.Store.{variableHead, variableNode, isVariable, belo
 use Rattle.definition.specs.Analysis.{StoredAll}
 use Rattle.definition.specs.Classes.{freshVariables}
 use Rattle.theory.specs.Patterns.Interned.{Grows, grows-none, grows-then, grows-long, interned, below-args}
-use Rattle.fresh.specs.Held.{Patterns}
+use Rattle.theory.specs.Copies.Terms.{Patterns}
 
 -- no node yet
 pub patterns-none : Patterns []

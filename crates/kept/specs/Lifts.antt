@@ -12,7 +12,7 @@ use Rattle.definition.specs.Laws.Tree.{args-below, tree-node, length-grow}
 use Rattle.definition.specs.Store.{variableHead, intern}
 use Rattle.definition.specs.Analysis.{lift, liftAll}
 use Rattle.theory.specs.Patterns.Interned.{grows-none, grows-then, grows-long}
-use Rattle.fresh.specs.Held.{Patterns}
+use Rattle.theory.specs.Copies.Terms.{Patterns}
 use Rattle.kept.specs.Interns.{Interning, InterningAll, intern-node, symbol-head}
 
 -- how many trees

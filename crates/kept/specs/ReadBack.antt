@@ -14,7 +14,7 @@ use Rattle.definition.specs.Graph.{Graph, vertex, root, isVar}
 use Rattle.definition.specs.Analysis.{copied, Numbered, Resolved, numberOf, resolveVariable, resolveAt, resolve}
 use Rattle.theory.specs.Patterns.Interned.{Grows}
 use Rattle.theory.specs.Patterns.Entries.{resolve-keeps}
-use Rattle.fresh.specs.Held.{Patterns}
+use Rattle.theory.specs.Copies.Terms.{Patterns}
 use Rattle.kept.specs.Interns.{intern-variable, intern-applied}
 use Rattle.kept.specs.Lifts.{lift-tree}
 use Rattle.kept.specs.Resolves.{resolve-most}

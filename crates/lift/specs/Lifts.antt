@@ -12,6 +12,7 @@ use Rattle.theory.specs.Walks.Machine.{Frame, frame, Walking, turn, Stacked}
 use Rattle.theory.specs.Walks.WalkReady.{Sound}
 use Rattle.theory.specs.Walks.Again.{stored}
 use Rattle.theory.specs.Walks.Lifting.{Lifting, lifting, argsOf, isLifted, liftNode, Right, lift-made, lift-others, args-fall, args-inside}
+use Rattle.base.specs.Outside.{Outside}
 use Rattle.base.specs.Part.{part}
 use Rattle.store.specs.Stored.{Stored, nodes, written}
 use Rattle.store.specs.declared.nodes.Store.{Store}
@@ -69,16 +70,12 @@ pub record Lifts (bytes work words : List ℕ) (c : Catalog) (l : Lifted) (st : 
   pub right : OfHeld bytes work c (λ P. Right P (liftedIn work words l st))
 
 -- the words ahead of lifting's tables are as they were, and those behind
-pub record Apart (work work′ : List ℕ) (l : Lifted) : Type 0 where
-  pub long : length work′ ≡ length work
-  pub ahead : (i : ℕ) → i < l .at → getD work′ i 0 ≡ getD work i 0
-  pub beyond : (i : ℕ) → l .end ≤ i → getD work′ i 0 ≡ getD work i 0
+abbrev pub Apart : List ℕ → List ℕ → Lifted → Type 0
+Apart work work′ l = Outside (l .at) (l .end) work work′
 
 -- what `clear` answers: whatever the tables hold, nothing is lifted
 pub record Clears (work work′ : List ℕ) (l : Lifted) : Type 0 where
-  pub long : length work′ ≡ length work
-  pub ahead : (i : ℕ) → i < l .at → getD work′ i 0 ≡ getD work i 0
-  pub beyond : (i : ℕ) → stackAt l ≤ i → getD work′ i 0 ≡ getD work i 0
+  pub frame : Outside (l .at) (stackAt l) work work′
   pub lifts : (bytes words : List ℕ) (c : Catalog) (st : Store) → Laid bytes work words c l st → Lifts bytes work′ words c l st
 
 -- what `lift` answers: the definition's number and store, with its words written; or short, when these words are more than there are

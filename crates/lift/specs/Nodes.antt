@@ -19,6 +19,7 @@ use Rattle.definition.specs.Analysis.{copied}
 use Rattle.theory.specs.Patterns.Interned.{interned}
 use Rattle.theory.specs.Walks.Again.{headed}
 use Rattle.theory.specs.Walks.Lifting.{argsOf, over, liftNode, args-inside}
+use Rattle.base.specs.Outside.{Outside, outside-put}
 use Rattle.base.specs.Part.{put, length-part, part-lent, part-set, part-set-before, part-put, length-put, put-before, put-behind, put-lent, part-put-before, part-put-behind}
 use Rattle.store.specs.Words.{nodeWith, node-of, begins-long, words-most}
 use Rattle.store.specs.Stored.{Stored, nodes, written, Answer}
@@ -71,13 +72,9 @@ module _ (work : List ℕ) (l : Lifted) (fits : stackAt l ≤ length work) (zs :
   as-put : after ≡ put (l .at) (l .nodes) zs work
   as-put = put-lent (l .at) (stackAt l) (l .nodes) work zs zs refl refl
 
-  -- nothing is longer or shorter
-  long : length after ≡ length work
-  long = ap length as-put ∙ length-put (l .at) (l .nodes) work fits zs many-zeros
-
-  -- nothing ahead has changed
-  ahead : (i : ℕ) → i < l .at → getD after i 0 ≡ getD work i 0
-  ahead i h = ap (λ (xs : List ℕ). getD xs i 0) as-put ∙ put-before (l .at) (l .nodes) work fits zs many-zeros i h
+  -- nothing else has changed
+  frame : Outside (l .at) (stackAt l) work after
+  frame = subst (λ (xs : List ℕ). Outside (l .at) (stackAt l) work xs) (sym as-put) (outside-put (l .at) (l .nodes) work zs fits many-zeros)
 
   -- the nodes' words are these zeros
   marks-zero : marks after l ≡ zs
@@ -93,13 +90,11 @@ module _ (work : List ℕ) (l : Lifted) (fits : stackAt l ≤ length work) (zs :
   -- so nothing is lifted
   pub cleared : Clears work after l
   cleared = record {
-    long = long;
-    ahead = ahead;
-    beyond = λ i h. ap (λ (xs : List ℕ). getD xs i 0) as-put ∙ put-behind (l .at) (l .nodes) work fits zs many-zeros i h;
+    frame = frame;
     lifts = λ bytes words c st L.
         let e : indexIn after l ≡ indexIn work l = ap (λ (xs : List ℕ). indexIn xs l) as-put ∙ part-put-behind (l .at) (l .nodes) work fits zs many-zeros (indexAt l) (l .end - indexAt l) (omega arith) (omega (arith, L .fits, L .inside)) in
         record {
-          laid = laid-on bytes work words c l st L after words st long ahead (subst (λ (xs : List ℕ). Stored xs words st) (sym e) (L .index));
+          laid = laid-on bytes work words c l st L after words st (frame .long) (frame .ahead) (subst (λ (xs : List ℕ). Stored xs words st) (sym e) (L .index));
           right = λ P r p n q v.
               let w = value-word after words l st n ∙ ap (λ (xs : List ℕ). said (getD xs n 0)) marks-zero ∙ ap said (no-mark n) in
               never (cc);
@@ -172,7 +167,7 @@ module _ (bytes work words : List ℕ) (c : Catalog) (l : Lifted) (st : Store) (
     pub finish-short : Answer (indexIn work l) words idx words′ st lent Short → Finishes bytes work words back words′ c l st n Short
     unfolding liftNode
     finish-short A = (
-      record { long = back-long; ahead = λ i h. back-before i (omega arith); beyond = back-behind },
+      record { long = back-long; ahead = λ i h. back-before i (omega arith); behind = back-behind },
       λ P r p. rw (← made P r p) (A .0),
     )
 
@@ -216,7 +211,7 @@ module _ (bytes work words : List ℕ) (c : Catalog) (l : Lifted) (st : Store) (
       unfolding liftNode valueOf liftedIn
       finish-id = (
         laid-on bytes work words c l st L last words′ st′ last-long last-ahead (subst (λ (xs : List ℕ). Stored xs words′ st′) (sym last-index) (A .3)),
-        record { long = last-long; ahead = last-ahead; beyond = λ i h. last-other i (λ e. absurd (omega (arith, R .given, L .fits))) ∙ back-behind i h },
+        record { long = last-long; ahead = last-ahead; behind = λ i h. last-other i (λ e. absurd (omega (arith, R .given, L .fits))) ∙ back-behind i h },
         λ i h j. last-other i (λ e. absurd (omega (arith, R .given))) ∙ back-before i j,
         A .2 ∙ ap (λ (s : List Node). written s words) (sym (A .1)),
         λ P r q. record {

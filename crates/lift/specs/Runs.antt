@@ -16,6 +16,7 @@ use Rattle.theory.specs.Walks.Walk.{walk}
 use Rattle.theory.specs.Walks.Machine.{Frame, frame, Walking, left, left-new, left-none, turnsLeft, Stacked, turn-kept, Kept}
 use Rattle.theory.specs.Walks.WalkReady.{Waiting, Sound, sound-new}
 use Rattle.theory.specs.Walks.Lifting.{Lifting, argsOf, isLifted, over, liftNode, Right, lift-made, lift-others, args-fall, args-inside, walked, walk-lifts, lift-going}
+use Rattle.base.specs.Outside.{outside-none, outside-then}
 use Rattle.base.specs.Part.{part-set-behind, part-set-before}
 use Rattle.store.specs.Words.{words-append}
 use Rattle.store.specs.Stored.{Stored, nodes, written}
@@ -35,7 +36,6 @@ use Rattle.lift.specs.Alike.{Alike, alike-self, alike-then, alike-known,
 use Rattle.lift.specs.Lifts.{stackAt, indexAt, indexIn, liftedIn, framesIn, Laid, Lifts, Apart, Going, Running, turnIn, Advances, Answers}
 use Rattle.lift.specs.Memo.{lifted-word, copied-word, lifted-same}
 use Rattle.lift.specs.Nodes.{laid-same, laid-on}
-use Rattle.lift.specs.Turns.{apart-none}
 use Rattle.lift.specs.declared.walk.Lifted.{Lifted}
 use Rattle.lift.specs.declared.walk.Turn.the-variants as turns
 
@@ -81,10 +81,6 @@ written-again s t words (with more e) =
 -- they are no fewer
 pub words-grow : (s t : List Node) → Grows s t → length (patternWords s) ≤ length (patternWords t)
 words-grow s t (with more e) = omega (arith, ap length (ap patternWords e ∙ words-append s more), length-append (patternWords s) (patternWords more))
-
--- one frame after another
-apart-then : (work work′ work″ : List ℕ) (l : Lifted) → Apart work work′ l → Apart work′ work″ l → Apart work work″ l
-apart-then work work′ work″ l A B = record { long = B .long ∙ A .long; ahead = λ i h. B .ahead i h ∙ A .ahead i h; beyond = λ i h. B .beyond i h ∙ A .beyond i h }
 
 -- ---- how many turns are left
 -- a pack with these nodes alone
@@ -230,7 +226,7 @@ module _ (bytes work₀ words₀ : List ℕ) (c : Catalog) (l : Lifted) (st₀ :
                     (sound-alike P p s′ (w P q p .state) (A .3 P q p .1) (w P q p .stack) (turn-sound P q p .0));
               };
         };
-        apart = apart-then work₀ work work′ l (W .apart) (A .1);
+        apart = outside-then (l .at) (l .end) work₀ work work′ (W .apart) (A .1);
         are =
             let P = L .held .pack in
             let q = L .held .reads in
@@ -270,7 +266,7 @@ module _ (bytes work₀ words₀ : List ℕ) (c : Catalog) (l : Lifted) (st₀ :
           let f : go (w P q p .stack) (w P q p .state) .store ≡ lift (treeOf P n) (nodes words₀ st₀) .store =
           ap (λ (t : Lifting). t .store) (turn-on P q p .result) ∙ W .whole P r p .store ∙ ap (λ (x : Placing). x .store) (sym (whole-is P r p)) in
           omega (arith, A .1 P q p, ap (λ (t : List Node). length (patternWords t)) f),
-      apart-then work₀ work work′ l (W .apart) (A .0),
+      outside-then (l .at) (l .end) work₀ work work′ (W .apart) (A .0),
     )
 
   -- no frame is left
@@ -341,7 +337,7 @@ module _ (bytes work words : List ℕ) (c : Catalog) (l : Lifted) (st : Store) (
 
   -- none outside
   pub first-apart : Apart work first l
-  first-apart = record { long = first-long; ahead = first-ahead; beyond = λ i p. first-other i (λ e. absurd (omega (arith, T .laid .fits))) (λ e. absurd (omega (arith, T .laid .fits))) }
+  first-apart = record { long = first-long; ahead = first-ahead; behind = λ i p. first-other i (λ e. absurd (omega (arith, T .laid .fits))) (λ e. absurd (omega (arith, T .laid .fits))) }
 
   -- the state is as it was
   first-state : liftedIn first words l st ≡ liftedIn work words l st
@@ -390,7 +386,7 @@ module _ (bytes work words : List ℕ) (c : Catalog) (l : Lifted) (st : Store) (
           } in
           subst (λ (fs : List Frame). Going P p (l .nodes) fs s) (sym first-frames) G;
     };
-    apart = apart-none first l;
+    apart = outside-none (l .at) (l .end) first;
     are = begins-written (nodes words st) words (T .laid .index .placed .begins);
     whole = λ P r p.
         let s = liftedIn first words l st in
@@ -405,9 +401,9 @@ module _ (bytes work words : List ℕ) (c : Catalog) (l : Lifted) (st : Store) (
     A .0,
     λ P r p. A .1 P (reads-on bytes work first c first-same (T .laid .held .cataloged) P r) p,
     A .2,
-    apart-then work first work′ l first-apart (A .3),
+    outside-then (l .at) (l .end) work first work′ first-apart (A .3),
   )
-  first-answers work′ words′ Short A = (λ P r p. A .0 P (reads-on bytes work first c first-same (T .laid .held .cataloged) P r) p, apart-then work first work′ l first-apart (A .1))
+  first-answers work′ words′ Short A = (λ P r p. A .0 P (reads-on bytes work first c first-same (T .laid .held .cataloged) P r) p, outside-then (l .at) (l .end) work first work′ first-apart (A .1))
 
   -- the pattern is read where no frame is left
   pub first-done : (work′ words′ : List ℕ) (st′ : Store) → Walks bytes first words work′ words′ c l st st′ n 0 → (q : Pattern) → q .0 ≡ getD work′ (l .at + n) 0 - 1 → Answers bytes work words work′ words′ c l st n (Id q st′)

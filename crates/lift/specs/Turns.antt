@@ -13,6 +13,7 @@ use Rattle.definition.specs.Test.{_and_}
 use Rattle.definition.specs.Pack.{Pack}
 use Rattle.theory.specs.Walks.Machine.{frame, Walking, walking, turn, height, turn-kept}
 use Rattle.theory.specs.Walks.Lifting.{Lifting, argsOf, isLifted, liftNode, args-fall}
+use Rattle.base.specs.Outside.{outside-none}
 use Rattle.base.specs.Part.{part-set-behind, part-set-before}
 use Rattle.store.specs.Stored.{Stored, nodes, written}
 use Rattle.store.specs.Table.{begins-written}
@@ -25,7 +26,7 @@ use Rattle.pack.specs.Reads.{Reads, length-nodes}
 use Rattle.pack.specs.Says.{OfPack}
 use Rattle.pack.specs.Held.{Proper, Held}
 use Rattle.lift.specs.Alike.{Alike, alike-self}
-use Rattle.lift.specs.Lifts.{stackAt, indexAt, marks, indexIn, liftedIn, framesIn, Laid, Apart, Ripe, Finishes, Running, turnIn, Advances}
+use Rattle.lift.specs.Lifts.{stackAt, indexAt, marks, indexIn, liftedIn, framesIn, Laid, Ripe, Finishes, Running, turnIn, Advances}
 use Rattle.lift.specs.Memo.{lifted-word, lifted-same, frames-same}
 use Rattle.lift.specs.Keys.{arguments-few, argument-given}
 use Rattle.lift.specs.Nodes.{laid-on}
@@ -37,10 +38,6 @@ pub length-frames : (work : List ℕ) (a k : ℕ) → length (framesIn work a k)
 unfolding framesIn
 length-frames work a zero = refl
 length-frames work a (suc k) = ap suc (length-frames work a k)
-
--- nothing was written
-pub apart-none : (work : List ℕ) (l : Lifted) → Apart work work l
-apart-none work l = record { long = refl; ahead = λ i h. refl; beyond = λ i h. refl }
 
 module _ (bytes work words : List ℕ) (c : Catalog) (l : Lifted) (st : Store) (top : ℕ) (R : Running bytes work words c l st (suc top)) where
   -- the layout
@@ -104,7 +101,7 @@ module _ (bytes work words : List ℕ) (c : Catalog) (l : Lifted) (st : Store) (
   unfolding turnIn turn framesIn
   turn-passed b e t =
       let s : eqb taken 0 and isLifted (liftedIn work words l st) n ≡ true = seen b e ∙ t in
-      (L, apart-none work l, still, λ P r p. (rw (s, turn), rw (s, turn) (alike-self (liftedIn work words l st))))
+      (L, outside-none (l .at) (l .end) work, still, λ P r p. (rw (s, turn), rw (s, turn) (alike-self (liftedIn work words l st))))
 
   -- it stays
   module _ (b : Bool) (e : b ≡ (eqb taken 0 and ltb 0 (getD work (l .at + n) 0))) (f : b ≡ false) (k : ℕ) (g : OfPack bytes work c (λ P. length (argsOf P n)) k) where
@@ -216,7 +213,7 @@ module _ (bytes work words : List ℕ) (c : Catalog) (l : Lifted) (st : Store) (
             let two : top + 2 ≡ suc (suc top) = omega arith in
             let ahead : (j : ℕ) → j < l .at → getD above j 0 ≡ getD work j 0 = λ j q. above-under j (omega arith) in (
               laid-on bytes work words c l st L above words st above-long ahead (subst (λ (xs : List ℕ). Stored xs words st) (sym above-index) (L .index)),
-              record { long = above-long; ahead = ahead; beyond = λ j q. above-over j (omega (arith, more-room, L .fits)) },
+              record { long = above-long; ahead = ahead; behind = λ j q. above-over j (omega (arith, more-room, L .fits)) },
               still,
               λ P r p.
                   let w = enters P r in (

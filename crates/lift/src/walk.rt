@@ -64,16 +64,16 @@ fn enter(work: &mut [u32], at: usize, taken: u32, a: u32)
 }
 
 // The head of node `n`, then what its arguments were lifted to; how many words these are.
-fn key_of(pack: &[u8], work: &[u32], c: Catalog, l: Lifted, n: usize, key: &mut [u32]) -> usize
-    requires { ⌜ Ripe (now pack) (now work) c l n × (length (now key) ≡ 17) ⌝ }
-    ensures { λ r. ⌜ Keyed (now (pack .entry)) (now (work .entry)) c l n (now (key .exit)) r ⌝ }
+fn key_of(pack: &[u8], work: &[u32], c: Catalog, l: Lifted, n: Ground, key: &mut [u32]) -> usize
+    requires { ⌜ Ripe (now pack) (now work) c l (n .0) × (length (now key) ≡ 17) ⌝ }
+    ensures { λ r. ⌜ Keyed (now (pack .entry)) (now (work .entry)) c l (n .0) (now (key .exit)) r ⌝ }
 {
     let at = l.at;
     let k = node_arity(pack, work, c, n);
     key[0] = node_head(pack, work, c, n);
     let mut i: usize = 0;
     while i < k {
-        let a = node_argument(pack, work, c, n, i) as usize;
+        let a = node_argument(pack, work, c, n, i).0 as usize;
         i += 1;
         key[i] = work[at + a] - 1;
     }
@@ -88,10 +88,10 @@ fn finish(
     c: Catalog,
     l: Lifted,
     st: Store,
-    n: usize,
+    n: Ground,
 ) -> Interned
-    requires { ⌜ Laid (now pack) (now work) (now words) c l st × Ripe (now pack) (now work) c l n ⌝ }
-    ensures { λ r. ⌜ Finishes (now (pack .entry)) (now (work .entry)) (now (words .entry)) (now (work .exit)) (now (words .exit)) c l st n r ⌝ }
+    requires { ⌜ Laid (now pack) (now work) (now words) c l st × Ripe (now pack) (now work) c l (n .0) ⌝ }
+    ensures { λ r. ⌜ Finishes (now (pack .entry)) (now (work .entry)) (now (words .entry)) (now (work .exit)) (now (words .exit)) c l st (n .0) r ⌝ }
 {
     let mut key = [0; 17];
     let k = key_of(pack, work, c, l, n, &mut key);
@@ -99,7 +99,7 @@ fn finish(
     let end = l.end;
     match st.intern(&mut work[from..end], words, &key[0..k]) {
         Interned::Id(p, more) => {
-            let at = l.at + n;
+            let at = l.at + n.0 as usize;
             work[at] = p.0 + 1;
             Interned::Id(p, more)
         }
@@ -122,14 +122,14 @@ fn advance(
     ensures { λ r. ⌜ Advances (now (pack .entry)) (now (work .entry)) (now (words .entry)) (now (work .exit)) (now (words .exit)) c l st top r ⌝ }
 {
     let at = l.at + l.nodes + 2 * top;
-    let n = work[at] as usize;
+    let n = Ground(work[at]);
     let taken = work[at + 1];
-    if passes(work, l, n, taken as usize) {
+    if passes(work, l, n.0 as usize, taken as usize) {
         return Turn::On(top, st);
     }
     if (taken as usize) < node_arity(pack, work, c, n) {
         let a = node_argument(pack, work, c, n, taken as usize);
-        enter(work, at, taken, a);
+        enter(work, at, taken, a.0);
         return Turn::On(top + 2, st);
     }
     match finish(pack, work, words, c, l, st, n) {

@@ -2,7 +2,7 @@
 use mathlib.Core.Path.{_≡_}
 use mathlib.Core.List.{List, _++_}
 use mathlib.Core.Option.{Option, none, some}
-use Prim.Native.Nat.{ℕ, suc, _+_, _<_}
+use Prim.Native.Nat.{ℕ, suc, _<_}
 use lib.ListN.{length, drop}
 use Rattle.definition.specs.Pack.{Pack, ruleOf, nodeOf, stepOf}
 use Rattle.definition.specs.Verdict.{Bound}

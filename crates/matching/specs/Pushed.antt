@@ -1,13 +1,12 @@
 -- Nodes put on the stack one by one, the last one first: what stands on it after each.
 use mathlib.Core.Path.{_≡_, refl, sym, ap, _∙_}
 use mathlib.Core.List.{List, [], _∷_, _++_}
-use Prim.Native.Nat.{ℕ, zero, suc, _+_, _-_, _≤_, _<_}
+use Prim.Native.Nat.{ℕ, suc, _+_, _-_, _≤_, _<_}
 use native.Mathlib.Omega.{arith}
 use lib.ListN.{length, getD, drop, drop-of-length-le}
 use lib.Seq.{drop-cons}
 use Rattle.definition.specs.Pack.{Pack, nodeOf, stepOf}
 use Rattle.definition.specs.Laws.Grow.{below-at}
-use Rattle.definition.specs.Good.{Below}
 use Rattle.definition.specs.Laws.Agreement.{judged}
 use Rattle.base.specs.Stack.{stacked}
 use Rattle.base.specs.declared.stack.Stack.{Stack}

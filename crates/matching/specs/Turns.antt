@@ -1,5 +1,5 @@
 -- What a turn of matching comes to, in the order in which code tests.
-use mathlib.Core.Path.{_≡_, refl, sym, ap, subst, _∙_}
+use mathlib.Core.Path.{_≡_, sym, ap, subst, _∙_}
 use mathlib.Core.Bool.{Bool, true, false}
 use mathlib.Core.List.{List, [], _∷_, _++_}
 use mathlib.Core.Option.{none, some}
@@ -13,10 +13,10 @@ use Rattle.definition.specs.Pack.{prop, Pack, Rule, Step, symbolOf, ruleOf, nod
 use Rattle.definition.specs.Certificate.{count}
 use Rattle.definition.specs.Theory.{variable}
 use Rattle.definition.specs.Verdict.{Bound, valueOf, bound, provided, onwards, matched, passes}
-use Rattle.definition.specs.Good.{Below, Good}
+use Rattle.definition.specs.Good.{Below}
 use Rattle.definition.specs.Laws.Grow.{below-more}
 use Rattle.definition.specs.Laws.Agreement.{judged, judged-below}
-use Rattle.definition.specs.Laws.Prefix.{termWords, termsWords}
+use Rattle.definition.specs.Laws.Prefix.{termsWords}
 use Rattle.definition.specs.Laws.Suffix.{judgments-sorted}
 use Rattle.clause.specs.Spelt.{words-most}
 use Rattle.base.specs.Part.{put}

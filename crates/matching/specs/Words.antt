@@ -12,7 +12,7 @@ use Rattle.definition.specs.Pack.{prop, Term, Terms, var, app, nil, cons, Rule,
 use Rattle.definition.specs.Theory.{variable}
 use Rattle.definition.specs.Certificate.{count}
 use Rattle.definition.specs.Verdict.{Bound, valueOf, bound, provided, onwards, matches, matchAll, matched, passes}
-use Rattle.definition.specs.Good.{Below, Sorted, SortedAll, Judgments, Arguments, Good, Few}
+use Rattle.definition.specs.Good.{Below, Sorted, SortedAll, Arguments, Good, Few}
 use Rattle.definition.specs.Laws.Prefix.{termWords, termsWords}
 use Rattle.definition.specs.Laws.Suffix.{judgments-sorted}
 use Rattle.definition.specs.Laws.Tree.{args-below}

@@ -1,6 +1,7 @@
 // A rule's words against nodes.
 use crate::pending::push_arguments;
 use crate::values::bind;
+use base::id::Ground;
 use base::stack::Popped;
 use base::stack::Stack;
 use buffer::zero::zero_words;
@@ -50,10 +51,10 @@ fn match_turn(
                 }
                 return Turn::Fails;
             }
-            if node_head(pack, work, c, n as usize) != w {
+            if node_head(pack, work, c, Ground(n)) != w {
                 return Turn::Fails;
             }
-            Turn::Next(push_arguments(pack, work, c, stack, rest, n as usize))
+            Turn::Next(push_arguments(pack, work, c, stack, rest, Ground(n)))
         }
         Popped::Empty => Turn::Done,
     }

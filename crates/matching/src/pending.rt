@@ -1,4 +1,5 @@
 // The nodes still to be matched, on a stack.
+use base::id::Ground;
 use base::stack::Stack;
 use catalog::whole::Catalog;
 use pack::node::node_argument;
@@ -20,16 +21,16 @@ pub fn push_arguments(
     c: Catalog,
     stack: &mut [u32],
     s: Stack,
-    n: usize,
+    n: Ground,
 ) -> Stack
-    requires { ⌜ ((H : Held (now pack) (now work) c) × (n < length (H .pack .nodes)) × (s .at ≡ 0) × (length (nodeOf (H .pack) n .args) + s .len ≤ length (now stack))) ⌝ }
-    ensures { λ r. ⌜ ArgumentsOn (now (pack .entry)) (now (work .entry)) c n (now (stack .entry)) (now (stack .exit)) s r ⌝ }
+    requires { ⌜ ((H : Held (now pack) (now work) c) × (n .0 < length (H .pack .nodes)) × (s .at ≡ 0) × (length (nodeOf (H .pack) (n .0) .args) + s .len ≤ length (now stack))) ⌝ }
+    ensures { λ r. ⌜ ArgumentsOn (now (pack .entry)) (now (work .entry)) c (n .0) (now (stack .entry)) (now (stack .exit)) s r ⌝ }
 {
     let mut on = s;
     let mut i = node_arity(pack, work, c, n);
     while 0 < i {
         i -= 1;
-        on = on.push(stack, node_argument(pack, work, c, n, i));
+        on = on.push(stack, node_argument(pack, work, c, n, i).0);
     }
     on
 }
@@ -40,12 +41,12 @@ pub fn push_judgments(pack: &[u8], work: &[u32], c: Catalog, stack: &mut [u32], 
     ensures { λ r. ⌜ JudgmentsOn (now (pack .entry)) (now (work .entry)) c i (now (stack .exit)) r ⌝ }
 {
     let empty = Stack { at: 0, len: 0 };
-    let mut on = empty.push(stack, step_judgment(pack, work, c, i));
+    let mut on = empty.push(stack, step_judgment(pack, work, c, i).0);
     let mut k = step_refs(pack, work, c, i);
     while 0 < k {
         k -= 1;
         let r = step_ref(pack, work, c, i, k) as usize;
-        on = on.push(stack, step_judgment(pack, work, c, r));
+        on = on.push(stack, step_judgment(pack, work, c, r).0);
     }
     on
 }

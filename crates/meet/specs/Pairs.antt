@@ -1,7 +1,7 @@
 -- The pairs still to be taken.
 use mathlib.Core.Path.{_≡_, refl, sym, ap, ap₂, subst, _∙_}
 use mathlib.Core.List.{List, [], _∷_}
-use Prim.Native.Nat.{ℕ, zero, suc, _+_, _*_, _-_, _≤_, _<_, min}
+use Prim.Native.Nat.{ℕ, suc, _+_, _*_, _-_, _≤_, _<_, min}
 use native.Mathlib.Omega.{arith}
 use native.Mathlib.Numerals.{add-one}
 use lib.ListN.{length, getD, set, drop, length-set, length-drop}
@@ -75,12 +75,12 @@ module _ (words before : List ℕ) (s : Counts) (x y a b n : ℕ) (A : ArityOf w
     pub pile-held : (g : Graph) → Shows words before s g → Shows words table s g
     pile-held g S = shows-rows words before table s g (P .rows) S
 
-    -- the arguments of either that are taken
-    pub pile-left : Holds words before s → x < s .nodes → i < n → startIn table x + 1 + i < startIn table (x + 1)
-    pile-left H l h = argument-there words table s (H .0) (pile-held (H .0) (H .1)) x l i (omega (arith, A (H .0) (H .1)))
+    -- there are as many arguments of either
+    pub pile-left : Holds words before s → x < s .nodes → (k : ℕ) → k < n → startIn table x + 1 + k < startIn table (x + 1)
+    pile-left H l k h = argument-there words table s (H .0) (pile-held (H .0) (H .1)) x l k (omega (arith, A (H .0) (H .1)))
 
-    pub pile-right : Holds words before s → y < s .nodes → i < n → startIn table y + 1 + i < startIn table (y + 1)
-    pile-right H l h = argument-there words table s (H .0) (pile-held (H .0) (H .1)) y l i (omega (arith, B (H .0) (H .1)))
+    pub pile-right : Holds words before s → y < s .nodes → (k : ℕ) → k < n → startIn table y + 1 + k < startIn table (y + 1)
+    pile-right H l k h = argument-there words table s (H .0) (pile-held (H .0) (H .1)) y l k (omega (arith, B (H .0) (H .1)))
 
     pub pile-more : (v w : ℕ) → i < n → ArgumentOf words table s x i v → ArgumentOf words table s y i w
         → Piled words before s x y top n (set (set table (rowsEnd words + 2 * (top + i)) v) (rowsEnd words + 2 * (top + i) + 1) w) v w (i + 1)

@@ -1,5 +1,6 @@
 // Goals and results: what each says in the parsed pack.
 use crate::name::goal_name;
+use base::id::Ground;
 use catalog::whole::Catalog;
 use pack::body::body_word;
 use pack::step::step_judgment;
@@ -13,11 +14,11 @@ ghost use Rattle.pack.specs.Held.{Held};
 ghost use Rattle.named.specs.Goals.{StepOf};
 
 // The judgment of goal `i`, a node.
-pub fn goal_judgment(pack: &[u8], work: &[u32], c: Catalog, i: usize) -> u32
+pub fn goal_judgment(pack: &[u8], work: &[u32], c: Catalog, i: usize) -> Ground
     requires { ⌜ Readable (now pack) (now work) c × (i < length (recordsOf (now work) c 5)) ⌝ }
-    ensures { λ r. ⌜ OfPack (now (pack .entry)) (now (work .entry)) c (λ P. getD (P .goals) i noGoal .judgment) r ⌝ }
+    ensures { λ r. ⌜ OfPack (now (pack .entry)) (now (work .entry)) c (λ P. getD (P .goals) i noGoal .judgment) (r .0) ⌝ }
 {
-    body_word(pack, work, c, 5, i, 0)
+    Ground(body_word(pack, work, c, 5, i, 0))
 }
 
 // The result that has the name of goal `g`.
@@ -45,7 +46,7 @@ pub fn goal_step(pack: &[u8], work: &[u32], c: Catalog, g: usize) -> Sought
     match goal_result(pack, work, c, g) {
         Sought::At(i) => {
             let s = result_step(pack, work, c, i) as usize;
-            if step_judgment(pack, work, c, s) == goal_judgment(pack, work, c, g) {
+            if step_judgment(pack, work, c, s).0 == goal_judgment(pack, work, c, g).0 {
                 return Sought::At(s);
             }
             return Sought::Nowhere;

@@ -16,7 +16,7 @@ pub fn step_predicate(pack: &[u8], work: &[u32], c: Catalog, s: usize) -> u32
     requires { ⌜ Held (now pack) (now work) c × (s < length (recordsOf (now work) c 4)) ⌝ }
     ensures { λ r. ⌜ OfHeld (now (pack .entry)) (now (work .entry)) c (λ P. r ≡ predicateOf P s) ⌝ }
 {
-    let n = step_judgment(pack, work, c, s) as usize;
+    let n = step_judgment(pack, work, c, s);
     node_head(pack, work, c, n)
 }
 

@@ -20,7 +20,7 @@ pub fn note_firsts(pack: &[u8], work: &mut [u32], c: Catalog, at: usize)
     let mut s = c.count(work, 4);
     while 0 < s {
         s -= 1;
-        let n = step_judgment(pack, work, c, s) as usize;
+        let n = step_judgment(pack, work, c, s).0 as usize;
         work[at + n] = s as u32;
     }
 }
@@ -30,6 +30,6 @@ pub fn first_of(pack: &[u8], work: &[u32], c: Catalog, at: usize, s: usize) -> u
     requires { ⌜ Noted (now pack) (now work) c at × (s < length (recordsOf (now work) c 4)) ⌝ }
     ensures { λ r. ⌜ OfHeld (now (pack .entry)) (now (work .entry)) c (λ P. r ≡ firstOf P s) ⌝ }
 {
-    let n = step_judgment(pack, work, c, s) as usize;
+    let n = step_judgment(pack, work, c, s).0 as usize;
     work[at + n] as usize
 }

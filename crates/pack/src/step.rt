@@ -1,6 +1,7 @@
 // Steps: what each says in the parsed pack.
 use crate::body::body_len;
 use crate::body::body_word;
+use base::id::Ground;
 use catalog::whole::Catalog;
 ghost use Prim.Native.Nat.{_<_};
 ghost use lib.ListN.{length, getD};
@@ -17,11 +18,11 @@ pub fn step_rule(pack: &[u8], work: &[u32], c: Catalog, s: usize) -> u32
 }
 
 // Its judgment, a node.
-pub fn step_judgment(pack: &[u8], work: &[u32], c: Catalog, s: usize) -> u32
+pub fn step_judgment(pack: &[u8], work: &[u32], c: Catalog, s: usize) -> Ground
     requires { ⌜ Readable (now pack) (now work) c × (s < length (recordsOf (now work) c 4)) ⌝ }
-    ensures { λ r. ⌜ OfPack (now (pack .entry)) (now (work .entry)) c (λ P. stepOf P s .judgment) r ⌝ }
+    ensures { λ r. ⌜ OfPack (now (pack .entry)) (now (work .entry)) c (λ P. stepOf P s .judgment) (r .0) ⌝ }
 {
-    body_word(pack, work, c, 4, s, 4)
+    Ground(body_word(pack, work, c, 4, s, 4))
 }
 
 // How many refs it has.

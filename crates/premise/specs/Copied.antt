@@ -2,11 +2,10 @@
 use mathlib.Core.Path.{_≡_, refl, sym, ap, ap₂, _∙_}
 use mathlib.Core.Bool.{Bool, true, false}
 use mathlib.Core.List.{List, [], _∷_, _++_}
-use mathlib.Core.Option.{Option, none, some}
+use mathlib.Core.Option.{none, some}
 use Prim.Native.Nat.{ℕ, zero, suc, _+_, _≤_, _<_}
 use native.Mathlib.Omega.{arith}
 use native.Mathlib.Decide.{ℕ-discrete}
-use native.Mathlib.Numerals.{add-one}
 use lib.ListN.{length, getD, length-append}
 use Rattle.definition.specs.Test.{is, see, never}
 use Rattle.definition.specs.Pack.{Node, noNode}
@@ -18,11 +17,11 @@ use Rattle.definition.specs.Analysis.{copied, Copy, pairing, copyNode, copyAll,
 use Rattle.definition.specs.Classes.{inOrder}
 use Rattle.base.specs.Part.{part, part-more}
 use Rattle.theory.specs.Copies.Parts.{parts-self, in-any}
-use Rattle.theory.specs.Copies.Copying.{valueOf-new, valueOf-old, looked, newest, older}
+use Rattle.theory.specs.Copies.Copying.{valueOf-old, looked, newest, older}
 use Rattle.theory.specs.Copies.CopyNode.{copyNode-nodes}
-use Rattle.theory.specs.Walks.Memo.{has, has-value}
+use Rattle.theory.specs.Walks.Memo.{has-value}
 use Rattle.theory.specs.Walks.CopyWalk.{noCopy, isCopied, copy-known}
-use Rattle.fresh.specs.Held.{wordOf}
+use Rattle.copy.specs.Held.{wordOf}
 use Rattle.premise.specs.Noted.{said, said-append}
 
 -- ---- what a node's copy adds

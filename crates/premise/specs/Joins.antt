@@ -1,17 +1,18 @@
 -- An instance and a copy unified in the graph's table, and the copy's variables noted behind it.
-use mathlib.Core.Path.{_≡_, refl, sym, ap, ap₂, _∙_, subst}
+use mathlib.Core.Path.{_≡_, sym, ap, ap₂, _∙_, subst}
 use mathlib.Core.List.{List, _++_}
 use mathlib.Core.Option.{none, some}
-use Prim.Native.Nat.{ℕ, _+_, _*_, _-_, _≤_, _<_}
+use Prim.Native.Nat.{ℕ, _+_, _-_, _≤_, _<_}
 use native.Mathlib.Omega.{arith}
-use lib.ListN.{length, getD}
+use lib.ListN.{length}
 use Rattle.definition.specs.Graph.{Graph, Unified, unify}
-use Rattle.base.specs.Part.{part, put, part-at, part-same, part-put, length-part, length-put, put-before, put-at, put-behind, part-put-before}
-use Rattle.base.specs.Outside.{Outside, outside-put, outside-then, outside-wider, part-ahead, part-behind}
+use Rattle.base.specs.Lent.{back as lent-back, back-first, back-outside as lent-outside}
+use Rattle.base.specs.Part.{part, put, part-at, length-part, part-put-before}
+use Rattle.base.specs.Outside.{Outside, outside-then, outside-wider, part-behind}
 use Rattle.memo.specs.declared.memo.Memo.{Memo}
 use Rattle.graph.specs.declared.graph.Graph.{Graph as Counts}
 use Rattle.unify.specs.declared.unify.Outcome.the-variants.{Joined, Clash as Unlike}
-use Rattle.graph.specs.Cells.{rowsEnd, nodes-few, Shows, SameRows, shows-rows, Unchanged}
+use Rattle.graph.specs.Cells.{rowsEnd, Shows, SameRows, shows-rows, Unchanged}
 use Rattle.graph.specs.Stack.{pairsEnd}
 use Rattle.graph.specs.Inner.{Inner, HoldsInner}
 use Rattle.unify.specs.Unifies.{Unifies}
@@ -87,10 +88,10 @@ module _ (work cells : List ℕ) (l : Layout) (g : Counts) (x y n copies : ℕ) 
     as-long = U .long ∙ table-long
 
     pub table-back : tableIn back l ≡ table′
-    table-back = part-put (l .graph) (l .end - l .graph) work fit table′ as-long
+    table-back = lent-back (l .graph) (l .end) work table′ (omega (arith, J .table)) (J .inside) (U .long)
 
     pub back-outside : Outside (l .graph) (l .end) work back
-    back-outside = outside-wider (l .graph) (l .graph + (l .end - l .graph)) (l .graph) (l .end) work back (omega arith) (omega (arith, J .table)) (outside-put (l .graph) (l .end - l .graph) work table′ fit as-long)
+    back-outside = lent-outside (l .graph) (l .end) work table′ (omega (arith, J .table)) (J .inside) (U .long)
 
     -- the copy's words are as they were
     pub back-variables : variablesIn back l n ≡ variablesIn work l n
@@ -99,14 +100,8 @@ module _ (work cells : List ℕ) (l : Layout) (g : Counts) (x y n copies : ℕ) 
     -- and what was noted
     back-copies : copiesIn back cells l copies ≡ copiesIn work cells l copies
     back-copies =
-        let k = J .room in
-        part-same (l .graph + copiesAt cells) copies back work (omega (arith, back-outside .long, J .table, J .inside)) (omega (arith, J .table, J .inside))
-        (λ i h.
-        let e : l .graph + copiesAt cells + i ≡ l .graph + (copiesAt cells + i) = omega arith in
-        let low : copiesAt cells + i < l .end - l .graph = omega (arith, J .table) in
-        ap (λ (j : ℕ). getD back j 0) e ∙ put-at (l .graph) (l .end - l .graph) work fit table′ as-long (copiesAt cells + i) low ∙ U .words (copiesAt cells + i) (omega arith)
-        ∙ part-at (l .graph) (l .end - l .graph) work (copiesAt cells + i) low
-        ∙ ap (λ (j : ℕ). getD work j 0) (sym e))
+        part-behind (l .graph) (l .graph + pairsEnd cells) work back (back-first (l .graph) (l .end) work table′ (omega (arith, J .table)) (J .inside) (U .long) (pairsEnd cells) (U .words)) (l .graph + copiesAt cells) copies (omega arith)
+        (omega (arith, J .room, J .table, J .inside))
 
     -- the variables are noted there
     pub notes-room : Room back (l .variables) n (l .graph + copiesAt cells) copies

@@ -2,7 +2,7 @@
 use mathlib.Core.Path.{_≡_, refl, sym, ap, ap₂, _∙_, subst}
 use mathlib.Core.List.{List, [], _∷_, _++_}
 use mathlib.Core.Option.{none, some}
-use Prim.Native.Nat.{ℕ, _+_, _*_, _-_, _≤_, _<_}
+use Prim.Native.Nat.{ℕ, _+_, _*_, _≤_, _<_}
 use native.Mathlib.Omega.{arith}
 use lib.ListN.{length, getD, length-append}
 use Rattle.definition.specs.Pack.{Term, Terms, var, app, nil, cons, Pack}
@@ -163,7 +163,7 @@ module _ (bytes work cells : List ℕ) (c : Catalog) (l : Layout) (g : Counts) (
     -- it is there
     module _ (x : Node) (g′ : Counts) (work₁ cells′ : List ℕ) (I : Instantiates bytes work work₁ cells cells′ c (placeOf l (p .rule) (p .vars)) g env (p .from) to (At x g′)) (long : length cells′ ≡ length cells) where
       outside : Outside (l .graph) (l .graph + rowsEnd cells) work work₁
-      outside = record { long = I .0 .long; ahead = I .0 .ahead; behind = I .0 .beyond }
+      outside = I .0
 
       variables-same : variablesIn work₁ l n ≡ variablesIn work l n
       variables-same = part-ahead (l .graph) (l .graph + rowsEnd cells) work work₁ outside (l .variables) n (M .variables) (omega (arith, M .variables, M .table, M .inside))

@@ -3,11 +3,10 @@ use mathlib.Core.Path.{_≡_, refl, sym, ap, ap₂, _∙_}
 use mathlib.Core.List.{List, [], _∷_, _++_, append-assoc, append-nil}
 use Prim.Native.Nat.{ℕ, zero, suc, _+_, _-_, _≤_, _<_}
 use native.Mathlib.Omega.{arith}
-use native.Mathlib.Numerals.{add-one}
 use lib.ListN.{length, getD, set, length-append, length-set}
-use lib.Seq.{getD-set-same, getD-set-other}
-use Rattle.base.specs.Part.{part, part-at, part-more, part-same, part-set-behind, length-part}
-use Rattle.base.specs.Outside.{Outside, outside-none, outside-then, outside-set}
+use lib.Seq.{getD-set-same}
+use Rattle.base.specs.Part.{part, part-more, part-set-behind}
+use Rattle.base.specs.Outside.{Outside, outside-none, outside-set}
 
 -- what words say: 0 nothing, else a node and one
 unfoldable pub said : List ℕ → List ℕ

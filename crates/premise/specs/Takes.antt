@@ -26,11 +26,12 @@ use Rattle.catalog.specs.declared.whole.Catalog.{Catalog}
 use Rattle.pack.specs.Reads.{Reads}
 use Rattle.pack.specs.Held.{Held, OfHeld, held-on, reads-on}
 use Rattle.graph.specs.declared.graph.Graph.{Graph as Counts}
-use Rattle.graph.specs.Cells.{rowsEnd, nodes-few, Shows}
+use Rattle.graph.specs.Cells.{rowsEnd, nodes-few, Shows, marksIn}
 use Rattle.graph.specs.Inner.{Inner, HoldsInner, many-nodes}
-use Rattle.fresh.specs.Held.{Patterns, marksIn, Given, Made, Copies}
-use Rattle.fresh.specs.declared.node.Copied.the-variants as answers
-use Rattle.fresh.specs.declared.node.Copied.{Copied}
+use Rattle.theory.specs.Copies.Terms.{Patterns}
+use Rattle.copy.specs.Held.{Given, Made, Copies}
+use Rattle.copy.specs.declared.walk.Copied.the-variants as answers
+use Rattle.copy.specs.declared.walk.Copied.{Copied}
 use Rattle.premise.specs.declared.layout.Layout.{Layout}
 use Rattle.premise.specs.declared.premise.Premise.{Premise}
 use Rattle.premise.specs.declared.premise.Taken.{Taken}
@@ -174,7 +175,7 @@ module _ (bytes work class words cells : List ℕ) (c : Catalog) (l : Layout) (s
   -- it is there
   module _ (y : Id) (g₁ : Counts) (memo₁ : Memo) (work₁ cells₁ : List ℕ) (C : CopiesTo work work₁ class words cells cells₁ l st g (p .row) (answers.At y g₁ memo₁)) (long : length cells₁ ≡ length cells) where
     outside : Outside (l .copied) (l .graph + rowsEnd cells) work work₁
-    outside = record { long = C .2 .long; ahead = C .2 .ahead; behind = C .2 .beyond }
+    outside = C .2
 
     made : (h : Graph) → Shows cells (tableIn work l) g h → Inner h → Made work₁ cells₁ (flexIn class (p .row)) (copyingOf l) g₁ (y .0) (conclusionIn class (p .row)) (freshIn class words st (p .row) h)
     made h H I = C .0 h H I

@@ -1,6 +1,5 @@
 // The copies' variables, noted in their order.
-ghost use Prim.Native.Nat.{_+_, _*_, _≤_, _<_};
-ghost use lib.ListN.{length};
+ghost use Prim.Native.Nat.{_+_, _<_};
 ghost use Rattle.premise.specs.Noted.{Noting, NotesOne, Room, Notes};
 
 // A copy's variable, whose word at `from` says its node and one, is noted behind so many others; 0 is none. How many there are then.

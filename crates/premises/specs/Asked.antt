@@ -2,7 +2,6 @@
 use mathlib.Core.Path.{_≡_, sym, ap, _∙_, subst}
 use mathlib.Core.List.{List}
 use Prim.Native.Nat.{ℕ, _+_, _<_}
-use native.Mathlib.Omega.{arith}
 use lib.ListN.{length, getD}
 use Rattle.definition.specs.Pack.{Terms, Pack, stepOf}
 use Rattle.definition.specs.Keys.{firstOf}
@@ -11,7 +10,7 @@ use Rattle.memo.specs.declared.memo.Memo.{Memo}
 use Rattle.store.specs.declared.nodes.Store.{Store}
 use Rattle.catalog.specs.Whole.{recordsOf}
 use Rattle.catalog.specs.declared.whole.Catalog.{Catalog}
-use Rattle.pack.specs.Held.{Held, OfHeld}
+use Rattle.pack.specs.Held.{OfHeld}
 use Rattle.pack.specs.Says.{Readable, OfPack}
 use Rattle.graph.specs.declared.graph.Graph.{Graph as Counts}
 use Rattle.needed.specs.Firsts.{Noted}

@@ -3,11 +3,10 @@ use mathlib.Core.Path.{_≡_, refl, sym, ap, ap₂, _∙_, subst}
 use mathlib.Core.Bool.{Bool}
 use mathlib.Core.List.{List, [], _∷_, _++_, map}
 use mathlib.Core.Option.{some}
-use Prim.Native.Nat.{ℕ, zero, suc, _+_, _*_, _-_, _≤_, _<_}
+use Prim.Native.Nat.{ℕ, zero, suc, _+_, _*_, _≤_, _<_}
 use native.Mathlib.Omega.{arith}
-use lib.ListN.{length, getD, drop, length-append, length-map}
+use lib.ListN.{length, getD, drop, length-append, length-map, List·getD-append}
 use lib.Seq.{drop-cons, getD-take}
-use lib.ListN.{List·getD-append}
 use Rattle.definition.specs.Pack.{Term, Terms, nil, cons, Node, Pack, ruleOf, stepOf}
 use Rattle.definition.specs.Certificate.{count}
 use Rattle.definition.specs.Good.{Below, SortedAll}
@@ -39,9 +38,9 @@ use Rattle.pack.specs.Held.{Proper, Held}
 use Rattle.pack.specs.Reads.{Reads, length-steps, ruleWords}
 use Rattle.clause.specs.Spelt.{Spelt, words-most}
 use Rattle.graph.specs.declared.graph.Graph.{Graph as Counts}
-use Rattle.graph.specs.Cells.{Shows}
+use Rattle.graph.specs.Cells.{Shows, marksIn}
 use Rattle.graph.specs.Inner.{Inner, many-nodes}
-use Rattle.fresh.specs.Held.{Patterns, marksIn}
+use Rattle.theory.specs.Copies.Terms.{Patterns}
 use Rattle.kept.specs.Unified.{unify-same}
 use Rattle.kept.specs.FewArgs.{FewArgs, few-copy, few-instance, few-unify}
 use Rattle.key.specs.declared.classes.Keying.{Keying}

@@ -1,9 +1,8 @@
 -- Reading back: what stands in work ahead of it, and that it comes to what the definition says.
-use mathlib.Core.Path.{_≡_, refl, sym, ap, _∙_}
-use mathlib.Core.Bool.{true, false, _||_}
+use mathlib.Core.Path.{_≡_, sym, ap, _∙_}
+use mathlib.Core.Bool.{true, false}
 use mathlib.Core.List.{List, [], _∷_}
-use mathlib.Core.Option.{none, some}
-use Prim.Native.Nat.{ℕ, suc, _+_, _-_, _≤_, _<_}
+use Prim.Native.Nat.{ℕ, _+_, _-_, _≤_, _<_}
 use native.Mathlib.Omega.{arith}
 use borrow.Author.Tests.{le-leb, lt-leb}
 use lib.ListN.{length, getD, take, drop, replicate}
@@ -12,13 +11,13 @@ use Rattle.definition.specs.Pack.{Pack, Node}
 use Rattle.definition.specs.Verdict.{valueOf}
 use Rattle.definition.specs.Store.{patternWords}
 use Rattle.definition.specs.Graph.{Graph, vertex, circular, cells as cellsOf}
-use Rattle.definition.specs.Analysis.{Numbered, Resolved as Answered, resolve}
+use Rattle.definition.specs.Analysis.{Numbered}
 use Rattle.theory.specs.Walks.Levels.{Inner}
 use Rattle.theory.specs.Walks.Reading.{numberedAs, resolvedAs}
 use Rattle.theory.specs.Walks.Resolving.{Resolving, resolving}
 use Rattle.base.specs.Part.{part, put, length-part}
 use Rattle.base.specs.declared.id.Pattern.{Pattern}
-use Rattle.buffer.specs.Zero.{zeros-long, zeros-there, zeros-before, zeros-behind}
+use Rattle.buffer.specs.Zero.{zeros-long, zeros-there, zeros-before}
 use Rattle.store.specs.Words.{begins-long}
 use Rattle.store.specs.Stored.{nodes}
 use Rattle.store.specs.declared.nodes.Store.{Store}
@@ -30,19 +29,19 @@ use Rattle.lift.specs.Lifts.{Lifts, indexIn}
 use Rattle.lift.specs.Nodes.{laid-same}
 use Rattle.lift.specs.declared.walk.Lifted.{Lifted}
 use Rattle.graph.specs.declared.graph.Graph.{Graph as Counts}
-use Rattle.graph.specs.Cells.{rowsEnd, Shows, nodes-few, shows-rows}
+use Rattle.graph.specs.Cells.{Shows, nodes-few, shows-rows}
 use Rattle.graph.specs.Pushes.{cells-shown}
 use Rattle.table.specs.declared.words.Table.{Table}
 use Rattle.root.specs.declared.root.Resolved.{Resolved}
 use Rattle.root.specs.declared.root.Resolved.the-variants as read
-use Rattle.table.specs.Words.{valuesAt, patternsAt, numbersAt, tableEnd, tableIn, wordOf, Grounded, Lies, Holding, Ready}
+use Rattle.table.specs.Words.{valuesAt, numbersAt, tableEnd, tableIn, Grounded, Lies, Holding, Ready}
 use Rattle.table.specs.Kept.{lifts-on}
 use Rattle.table.specs.Moved.{table-at, table-long, numbers-most}
 use Rattle.resolve.specs.Stacks.{Clears, Answers}
 use Rattle.readback.specs.declared.answer.Walk.{Walk}
 use Rattle.readback.specs.declared.answer.Walk.the-variants.{Done, Refused}
-use Rattle.readback.specs.Came.{Came, done, refused, ended, readBack}
-use Rattle.readback.specs.Walks.{Kept, Ends, cameOf, Walks}
+use Rattle.readback.specs.Came.{done, ended, readBack}
+use Rattle.readback.specs.Walks.{Walks}
 
 -- work holds the pack P, behind it lifting's words, behind these the graph h without circles, of nodes with few arguments
 pub record Lying (bytes work words cells : List ℕ) (c : Catalog) (l : Lifted) (t : Table) (st : Store) (g : Counts) (P : Pack) (h : Graph) : Type 0 where

@@ -15,9 +15,8 @@ use Rattle.definition.specs.Test.{is, see, never, _and_, all, and-parts}
 use Rattle.definition.specs.Pack.{Node, noNode}
 use Rattle.definition.specs.Good.{Below}
 use Rattle.definition.specs.Store.{isVariable, variableHead, below, placeOf, intern, patternWords}
-use Rattle.theory.specs.Copies.Terms.{below-variable, below-applied}
+use Rattle.theory.specs.Copies.Terms.{below-variable, below-applied, Patterns}
 use Rattle.store.specs.Words.{nodeWith}
-use Rattle.fresh.specs.Held.{Patterns}
 
 -- ---- the definition
 -- the node ahead

@@ -1,27 +1,25 @@
 -- Reading a list of patterns: what the functions owe to each other, and the laws of a turn: what is left to read gives the whole.
-use mathlib.Core.Path.{_≡_, refl, sym, ap, ap₂, subst, _∙_}
+use mathlib.Core.Path.{_≡_, sym, ap, ap₂, subst, _∙_}
 use mathlib.Core.Bool.{true, false}
-use mathlib.Core.List.{List, [], _∷_}
+use mathlib.Core.List.{List, []}
 use Prim.Native.Nat.{ℕ, suc, _+_, _-_, _≤_, _<_}
 use native.Mathlib.Omega.{arith}
 use lib.ListN.{length, getD, take, drop, length-drop, drop-of-length-le}
 use lib.Seq.{drop-drop}
 use Rattle.definition.specs.Pack.{Node}
 use Rattle.definition.specs.Store.{Stored as Placing, intern, patternWords}
-use Rattle.theory.specs.Walks.Again.{stored}
 use Rattle.base.specs.declared.id.Pattern.{Pattern}
 use Rattle.store.specs.Words.{nodeWith, begins-long}
 use Rattle.store.specs.Stored.{nodes}
 use Rattle.store.specs.declared.nodes.Store.{Store}
-use Rattle.store.specs.declared.nodes.Interned.{Interned}
 use Rattle.store.specs.declared.nodes.Interned.the-variants.{Id, Short}
-use Rattle.catalog.specs.Same.{Same, same-none, same-then}
+use Rattle.catalog.specs.Same.{Same}
 use Rattle.catalog.specs.declared.whole.Catalog.{Catalog}
 use Rattle.lift.specs.Lifts.{Lifts}
 use Rattle.lift.specs.Nodes.{laid-same}
 use Rattle.lift.specs.declared.walk.Lifted.{Lifted}
 use Rattle.table.specs.Kept.{Indexed, Interns}
-use Rattle.fresh.specs.Held.{Patterns}
+use Rattle.theory.specs.Copies.Terms.{Patterns}
 use Rattle.readback.specs.declared.list.Turn.{Turn}
 use Rattle.readback.specs.declared.list.Turn.the-variants.{Next, Broken, Full}
 use Rattle.readback.specs.declared.list.Listed.{Listed as Came}

@@ -1,16 +1,16 @@
 -- Where the regions stand in work: behind the pack's tables lifting's words with the store's index, behind these the rest.
-use mathlib.Core.Path.{_≡_, refl, sym, ap, subst, _∙_}
+use mathlib.Core.Path.{_≡_, sym, ap, subst, _∙_}
 use mathlib.Core.List.{List, []}
 use mathlib.Core.Option.{none}
 use Prim.Native.Nat.{ℕ, _+_, _*_, _-_, _/_, _≤_, _<_}
 use native.Mathlib.Omega.{arith}
-use lib.ListN.{length, getD, take, drop}
+use lib.ListN.{length, take, drop}
 use Rattle.definition.specs.Pack.{Pack}
 use Rattle.definition.specs.Frame.{fine}
 use Rattle.definition.specs.Parse.{parse}
 use Rattle.definition.specs.Answer.{lengths}
-use Rattle.base.specs.Part.{part, put, part-lent, length-part, length-put, put-before, part-put, part-put-before}
-use Rattle.store.specs.Stored.{Enough, Stored, nodes}
+use Rattle.base.specs.Part.{part, put, length-part, length-put, put-before, part-put}
+use Rattle.store.specs.Stored.{Stored, nodes}
 use Rattle.store.specs.declared.nodes.Store.{Store}
 use Rattle.catalog.specs.Whole.{recordsOf, Fits}
 use Rattle.catalog.specs.Same.{Same, endOf, same-records}
@@ -19,7 +19,7 @@ use Rattle.pack.specs.Held.{Held, held-on}
 use Rattle.reader.specs.Parsed.{tablesOf, Represents}
 use Rattle.reader.specs.Said.{represents-held}
 use Rattle.call.specs.Lengths.{Fit, lengths-fit}
-use Rattle.lift.specs.Lifts.{indexAt, indexIn, Laid, Lifts, Clears}
+use Rattle.lift.specs.Lifts.{Laid, Lifts, Clears}
 use Rattle.lift.specs.declared.walk.Lifted.{Lifted}
 use Rattle.readback.specs.Came.{lentTo}
 
@@ -97,7 +97,7 @@ module _ (bytes work words : List ℕ) (c : Catalog) (l : Lifted) (H : Held byte
     stores e work′ C = record {
       empty = e;
       lifts = C .lifts bytes words c st laid;
-      same = record { long = C .long ∙ indexed-long; words = λ i h. C .ahead i (omega (arith, L .at)) ∙ indexed-same .words i h };
+      same = record { long = C .frame .long ∙ indexed-long; words = λ i h. C .frame .ahead i (omega (arith, L .at)) ∙ indexed-same .words i h };
     }
 
 -- the numbers of a pack that was opened

@@ -3,14 +3,13 @@ use mathlib.Core.Path.{_≡_, refl, sym, ap, _∙_}
 use mathlib.Core.List.{List}
 use mathlib.Core.Option.{none, some}
 use Prim.Native.Nat.{ℕ, _≤_}
-use native.Mathlib.Omega.{arith}
 use lib.ListN.{length, take, replicate}
 use lib.Seq.{length-take-le}
-use Rattle.definition.specs.Pack.{Pack, Node}
+use Rattle.definition.specs.Pack.{Pack}
 use Rattle.definition.specs.Frame.{fine}
 use Rattle.definition.specs.Parse.{parse}
 use Rattle.definition.specs.Store.{patternWords}
-use Rattle.definition.specs.Answer.{Lent, answer, answerOf, lengths, padded}
+use Rattle.definition.specs.Answer.{Lent, answer, lengths, padded}
 use Rattle.definition.specs.declared.Answer.{Answer}
 use Rattle.definition.specs.declared.Refusal.{Refusal}
 use Rattle.buffer.specs.Zero.{zeroed}
@@ -22,7 +21,7 @@ use Rattle.call.specs.Opening.{openingRefusal, pack-opened}
 use Rattle.readback.specs.declared.answer.Walk.{Walk}
 use Rattle.readback.specs.declared.answer.Walk.the-variants.{Done, Refused}
 use Rattle.readback.specs.declared.answer.Walked.{Walked}
-use Rattle.readback.specs.Came.{Came, done, refused, refusal, Left, said, wordsLeft, leaves, opened}
+use Rattle.readback.specs.Came.{Came, done, refused, Left, said, wordsLeft, leaves, opened}
 
 -- the words hold the store, with some index
 abbrev pub Kept : List ℕ → Store → Type 0

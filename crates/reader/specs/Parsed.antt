@@ -10,6 +10,7 @@ use Rattle.definition.specs.Frame.{fine, refuse}
 use Rattle.definition.specs.Parse.{kinds, takeRecord, parse}
 use Rattle.definition.specs.Laws.Frame.{records-end}
 use Rattle.definition.specs.Laws.Good.{empty-good}
+use Rattle.base.specs.Outside.{outside-then}
 use Rattle.base.specs.Part.{put, part-lent, length-part, put-lent, length-put, put-at, put-behind}
 use Rattle.catalog.specs.Whole.{recordsOf, Fits, Cleared}
 use Rattle.catalog.specs.declared.whole.Catalog.{Catalog}
@@ -44,17 +45,6 @@ Parses bytes work work′ (parsed.Limit at) = parse bytes ≡ refuse (Limit at)
 pub room-fits : (bytes work : List ℕ) → Room bytes work → Fits work (tablesOf (length bytes))
 room-fits bytes work R = record { small = omega (arith, R .short); fits = omega (arith, R .fits) }
 
--- nothing is changed, and what is behind one change and another
-pub beyond-same : (work : List ℕ) (c : Catalog) → Beyond work work c
-beyond-same work c = record { long = refl; ahead = λ i l. refl; beyond = λ i l. refl }
-
-pub beyond-then : (work work′ work″ : List ℕ) (c : Catalog) → Beyond work work′ c → Beyond work′ work″ c → Beyond work work″ c
-beyond-then work work′ work″ c A B = record {
-  long = B .long ∙ A .long;
-  ahead = λ i l. B .ahead i l ∙ A .ahead i l;
-  beyond = λ i l. B .beyond i l ∙ A .beyond i l;
-}
-
 -- no mark is set and no record is there: ahead of the first one
 module _ (bytes work work′ : List ℕ) (R : Room bytes work) (octets : (i : ℕ) → getD bytes i 0 < 256) where
   abbrev c : Catalog
@@ -68,7 +58,7 @@ module _ (bytes work work′ : List ℕ) (R : Room bytes work) (octets : (i : �
           reading = record { cataloged = C .cataloged bytes; few = λ k h. omega (arith, few k h); cap = refl; short = R .short };
           marks = record {
             room = omega (arith, R .fits, long, C .outside .long);
-            found = λ h l m. absurd (omega (arith, m, C .outside .beyond (marksAt c + h) (omega arith), zeros h l));
+            found = λ h l m. absurd (omega (arith, m, C .outside .behind (marksAt c + h) (omega arith), zeros h l));
             marked = λ j l. absurd (omega (arith, l, few 7 (omega arith)));
           };
           octets = octets;
@@ -81,7 +71,7 @@ module _ (bytes work work′ : List ℕ) (R : Room bytes work) (octets : (i : �
         record {
           long = C .outside .long ∙ long;
           ahead = λ i l. absurd (omega arith);
-          beyond = λ i l. C .outside .beyond i (omega arith) ∙ behind i l;
+          behind = λ i l. C .outside .behind i (omega arith) ∙ behind i l;
         },
       )
 
@@ -109,6 +99,6 @@ at-end bytes work work′ at last W B l =
 
 -- what was changed before the first record
 pub parses-from : (bytes work mid work′ : List ℕ) (r : Parsed) → Beyond work mid (tablesOf (length bytes)) → Parses bytes mid work′ r → Parses bytes work work′ r
-parses-from bytes work mid work′ parsed.Fine B P = (P .0, P .1, P .2, beyond-then work mid work′ (tablesOf (length bytes)) B (P .3))
+parses-from bytes work mid work′ parsed.Fine B P = (P .0, P .1, P .2, outside-then 0 (marksAt (tablesOf (length bytes)) + tablesOf (length bytes) .cap) work mid work′ B (P .3))
 parses-from bytes work mid work′ (parsed.Form at) B P = P
 parses-from bytes work mid work′ (parsed.Limit at) B P = P

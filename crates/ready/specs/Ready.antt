@@ -5,9 +5,8 @@ use Prim.Native.Nat.{ℕ, _+_, _*_, _≤_, _<_}
 use native.Mathlib.Omega.{arith}
 use lib.ListN.{length}
 use Rattle.definition.specs.Pack.{Pack}
-use Rattle.definition.specs.Frame.{fine}
+use Rattle.definition.specs.Frame.{fine, refuse}
 use Rattle.definition.specs.Parse.{parse}
-use Rattle.definition.specs.Frame.{refuse}
 use Rattle.definition.specs.Answer.{Lent, mostCells}
 use Rattle.definition.specs.Run.{outcome}
 use Rattle.definition.specs.Keys.{keyed as keysOf}
@@ -25,7 +24,7 @@ use Rattle.pack.specs.Held.{Held, OfHeld, held-on, reads-on}
 use Rattle.cuts.specs.Marks.{Marks}
 use Rattle.reader.specs.Parsed.{tablesOf, Represents}
 use Rattle.reader.specs.Said.{represents-held}
-use Rattle.fresh.specs.Held.{Patterns}
+use Rattle.theory.specs.Copies.Terms.{Patterns}
 use Rattle.kept.specs.Runs.{outcome-note, outcome-short, length-class}
 use Rattle.kept.specs.Interns.{patterns-none}
 use Rattle.kept.specs.Variables.{VariablesBelow, variables-none}

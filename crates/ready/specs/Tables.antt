@@ -53,9 +53,9 @@ module _ (work words : List ℕ) (l : Layout) (X : Indexable work words l) where
       let back : Outside at (at + many) work (put at many idx work) = outside-put at many work idx fit long in
       record {
         frame = record {
-          long = C .long ∙ back .long;
-          ahead = λ i h. C .ahead i h ∙ back .ahead i (omega arith);
-          behind = λ i h. C .beyond i (omega (arith, X .index)) ∙ back .behind i (omega (arith, X .index));
+          long = C .frame .long ∙ back .long;
+          ahead = λ i h. C .frame .ahead i h ∙ back .ahead i (omega arith);
+          behind = λ i h. C .frame .behind i (omega (arith, X .index)) ∙ back .behind i (omega (arith, X .index));
         };
         none = n;
         lifts = λ bytes c H b m.

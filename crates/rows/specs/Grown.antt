@@ -25,7 +25,7 @@ use Rattle.pack.specs.Held.{held-on, reads-back}
 use Rattle.lift.specs.Lifts.{indexAt, marks, indexIn, Lifts}
 use Rattle.lift.specs.Memo.{lifted-same}
 use Rattle.lift.specs.declared.walk.Lifted.{Lifted}
-use Rattle.fresh.specs.Held.{Patterns}
+use Rattle.theory.specs.Copies.Terms.{Patterns}
 use Rattle.kept.specs.Variables.{VariablesBelow}
 use Rattle.key.specs.Words.{countIn}
 use Rattle.key.specs.declared.classes.Keying.{Keying}

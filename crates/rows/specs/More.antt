@@ -21,7 +21,7 @@ use Rattle.catalog.specs.declared.whole.Catalog.{Catalog}
 use Rattle.pack.specs.Reads.{length-steps}
 use Rattle.pack.specs.Held.{reads-on}
 use Rattle.lift.specs.Lifts.{Lifts}
-use Rattle.fresh.specs.Held.{Patterns}
+use Rattle.theory.specs.Copies.Terms.{Patterns}
 use Rattle.kept.specs.Variables.{VariablesBelow}
 use Rattle.needed.specs.Upto.{upto-same}
 use Rattle.keys.specs.Keyed.{keyed-work-on}

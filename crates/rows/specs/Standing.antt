@@ -1,7 +1,7 @@
 -- What class building holds between one class and the next: the keys, the rows of the classes made, the store of their patterns.
 use mathlib.Core.Path.{_≡_, refl, sym, subst}
 use mathlib.Core.List.{List}
-use Prim.Native.Nat.{ℕ, _+_, _-_, _≤_, _<_}
+use Prim.Native.Nat.{ℕ, _+_, _≤_, _<_}
 use native.Mathlib.Omega.{arith}
 use lib.ListN.{length, getD}
 use Rattle.definition.specs.Pack.{Pack}
@@ -19,7 +19,7 @@ use Rattle.pack.specs.Reads.{Reads, length-steps}
 use Rattle.pack.specs.Held.{Proper, Held, reads-on}
 use Rattle.lift.specs.Lifts.{Lifts}
 use Rattle.lift.specs.declared.walk.Lifted.{Lifted}
-use Rattle.fresh.specs.Held.{Patterns}
+use Rattle.theory.specs.Copies.Terms.{Patterns}
 use Rattle.kept.specs.Variables.{VariablesBelow}
 use Rattle.needed.specs.Upto.{upto-same}
 use Rattle.key.specs.Words.{endOf}

@@ -2,13 +2,12 @@
 use mathlib.Core.Path.{_≡_, refl, sym, ap, ap₂, _∙_}
 use mathlib.Core.Bool.{Bool, true, false}
 use mathlib.Core.List.{List, [], _∷_, _++_, map, append-assoc, append-nil}
-use Prim.Native.Nat.{ℕ, zero, suc, _+_, _-_, _≤_, _<_}
+use Prim.Native.Nat.{ℕ, zero, suc, _+_, _≤_, _<_}
 use native.Mathlib.Omega.{arith}
-use lib.ListN.{length, getD, take, drop, length-append, length-map, length-drop, List·getD-append}
-use lib.Seq.{drop-append-seam, take-append-seam, drop-drop, getD-drop}
+use lib.ListN.{length, getD, take, drop, length-append, length-map}
+use lib.Seq.{drop-append-seam, drop-drop}
 use Rattle.definition.specs.Keys.{Keyed, noKeyed}
 use Rattle.definition.specs.Classes.{Class, noClass, mark, rowWords}
-use Rattle.base.specs.Part.{part, part-at, length-part}
 use Rattle.graph.specs.Cells.{markIn}
 
 -- a class's row

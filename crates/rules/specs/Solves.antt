@@ -180,7 +180,7 @@ module _ (bytes work class words cells : List ℕ) (c : Catalog) (k : Keying) (l
 
   module _ (g : Counts) (work₁ cells₁ : List ℕ) (O : Opens bytes work work₁ cells cells₁ c (placeOf l (u .rule) (u .vars)) (opened.On g)) (long : length cells₁ ≡ length cells) where
     outside : Outside (l .graph) (l .graph + rowsEnd cells) work work₁
-    outside = record { long = O .0 .long; ahead = O .0 .ahead; behind = O .0 .beyond }
+    outside = O .0
 
     begun : (r : KeyCounts) (fill : ℕ) (P : Pack) (b : Built) → Standing bytes work class words cells c k l r st memo fill P b → Ruled P b u
         → Begun bytes work₁ class words cells₁ c k l r st memo fill g env u P b (variablesOf (ruleOf P (u .rule) .vars))

@@ -1,18 +1,18 @@
 -- The class that a step makes, in the stages of the definition's run.
-use mathlib.Core.Path.{_≡_, refl, sym, ap, ap₂, _∙_}
-use mathlib.Core.Bool.{Bool, true, false, not}
+use mathlib.Core.Path.{_≡_, sym, ap, ap₂, _∙_}
+use mathlib.Core.Bool.{true, false, not}
 use mathlib.Core.List.{List, [], _∷_, map}
 use mathlib.Core.Option.{Option, none, some}
 use Prim.Native.Nat.{ℕ, suc, _≤_, _<_}
 use lib.ListN.{length, getD}
-use Rattle.definition.specs.Pack.{Pack, Rule, noNode, ruleOf, stepOf}
+use Rattle.definition.specs.Pack.{Pack, noNode, ruleOf, stepOf}
 use Rattle.definition.specs.Frame.{fine, refuse}
 use Rattle.definition.specs.Answer.{Lent}
 use Rattle.definition.specs.Run.{Run, lengthOf, _>>=_, note, orElse, need, outcome}
 use Rattle.definition.specs.Verdict.{Bound}
 use Rattle.definition.specs.Store.{isVariable}
-use Rattle.definition.specs.Graph.{Graph, Grown, variableVertex, vertex, cells, circular, upTo}
-use Rattle.definition.specs.Analysis.{instantiate, valued, Numbered, Resolved, resolve}
+use Rattle.definition.specs.Graph.{Graph, Grown, vertex, cells, circular, upTo}
+use Rattle.definition.specs.Analysis.{instantiate, valued, Resolved, resolve}
 use Rattle.definition.specs.Keys.{firstOf}
 use Rattle.definition.specs.Classes.{Class, Built, Premises, takePremises, countOf, isFixed, addClass, makeRule}
 use Rattle.definition.specs.declared.Refusal.{Refusal}

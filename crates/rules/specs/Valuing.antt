@@ -5,7 +5,6 @@ use mathlib.Core.List.{List, [], _∷_, _++_, map}
 use mathlib.Core.Option.{none, some}
 use Prim.Native.Nat.{ℕ, zero, suc, _+_, _*_, _-_, _≤_, _<_}
 use native.Mathlib.Omega.{arith}
-use native.Mathlib.Decide.{decLt}
 use lib.ListN.{length, getD, take}
 use lib.Seq.{take-length}
 use Rattle.definition.specs.Pack.{nil, Pack, ruleOf, stepOf}
@@ -18,7 +17,8 @@ use Rattle.definition.specs.Graph.{circular}
 use Rattle.definition.specs.Analysis.{valued}
 use Rattle.definition.specs.Classes.{Built, Premises}
 use Rattle.theory.specs.Keys.Needed.{first-judgment}
-use Rattle.base.specs.Part.{part, put, part-at, length-part, part-put, length-put, put-before, put-at, put-behind}
+use Rattle.base.specs.Lent.{back as lent-back, back-first}
+use Rattle.base.specs.Part.{part, put, length-part}
 use Rattle.base.specs.Outside.{Outside, outside-then, outside-wider, part-ahead, part-behind}
 use Rattle.base.specs.Upto.{upto-outside}
 use Rattle.memo.specs.Recall.{Remembers}
@@ -149,31 +149,17 @@ module _ (bytes work class words cells : List ℕ) (c : Catalog) (k : Keying) (l
 
     -- the table came back from the test for circles
     module _ (table′ : List ℕ) (U : Unchanged (coloursEnd cells) (tableIn work l) table′) where
-      fit : l .graph + (l .end - l .graph) ≤ length work
-      fit = omega (arith, S .placed .laid .table, S .placed .laid .inside)
-
-      as-long : length table′ ≡ l .end - l .graph
-      as-long = U .long ∙ table-long
+      up : l .graph ≤ l .end
+      up = omega (arith, S .placed .laid .table)
 
       abbrev back : List ℕ
       back = put (l .graph) (l .end - l .graph) table′ work
 
       table-back : tableIn back l ≡ table′
-      table-back = part-put (l .graph) (l .end - l .graph) work fit table′ as-long
+      table-back = lent-back (l .graph) (l .end) work table′ up (S .placed .laid .inside) (U .long)
 
       back-outside : Outside (l .graph) (l .graph + coloursEnd cells) work back
-      back-outside = record {
-        long = length-put (l .graph) (l .end - l .graph) work fit table′ as-long;
-        ahead = λ i h. put-before (l .graph) (l .end - l .graph) work fit table′ as-long i h;
-        behind = λ i h. elim (decLt i (l .end)) [
-          | yes m ↦
-              let e : i ≡ l .graph + (i - l .graph) = omega arith in
-              let low : i - l .graph < l .end - l .graph = omega arith in
-              ap (λ (j : ℕ). getD back j 0) e ∙ put-at (l .graph) (l .end - l .graph) work fit table′ as-long (i - l .graph) low ∙ U .words (i - l .graph) (omega arith) ∙ part-at (l .graph) (l .end - l .graph) work (i - l .graph) low
-              ∙ ap (λ (j : ℕ). getD work j 0) (sym e)
-          | no m ↦ put-behind (l .graph) (l .end - l .graph) work fit table′ as-long i (omega (arith, m, S .placed .laid .table))
-        ];
-      }
+      back-outside = back-first (l .graph) (l .end) work table′ up (S .placed .laid .inside) (U .long) (coloursEnd cells) (U .words)
 
       standing-back : Standing bytes back class words cells c k l r st memo fill P b
       standing-back =

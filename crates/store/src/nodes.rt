@@ -13,7 +13,7 @@ ghost use Rattle.definition.specs.Pack.{noNode};
 ghost use Rattle.definition.specs.Test.{same};
 ghost use Rattle.base.specs.Probe.{Ran, taken};
 ghost use Rattle.base.specs.Hash.{hashOf};
-ghost use Rattle.store.specs.Words.{keyOf, nodeWith};
+ghost use Rattle.store.specs.Words.{keyOf};
 ghost use Rattle.store.specs.Stored.{Stored, nodes, Counts, Spans, slotsIn, Placed, Entered, Enough, Searching, Probed, Fits, Appended, Adding, Rebuilding, Added, Answer};
 
 // How many nodes there are, how many words they take, and below what their hashes are.

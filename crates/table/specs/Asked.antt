@@ -18,7 +18,7 @@ use Rattle.graph.specs.Nodes.{ArityOf, ArgumentOf, FlexOf, argument-there}
 use Rattle.graph.specs.Joins.{HeadOf, head-variable, head-other}
 use Rattle.table.specs.declared.words.Table.{Table}
 use Rattle.table.specs.Words.{tableEnd, tableIn, Moves}
-use Rattle.table.specs.Moved.{table-at, found-behind, found-moves}
+use Rattle.table.specs.Moved.{table-at, found-outside, found-moves}
 
 -- work holds a graph of nodes with few arguments in its table
 pub record Graphed (cells work : List ℕ) (t : Table) (g : Counts) (h : Graph) : Type 0 where
@@ -128,7 +128,7 @@ module _ (cells work : List ℕ) (t : Table) (g : Counts) (x i : ℕ) (A : Argui
         let G = A .asking .graphed in
         let M = found-moves cells work t g (G .room) (G .fits) a r table′ F in
         record {
-          finds = record { long = M .long; ahead = M .ahead; behind = found-behind cells work t g (G .room) (G .fits) a r table′ F; shows = M .shows };
+          finds = record { long = M .long; ahead = M .ahead; behind = found-outside cells work t g (G .room) (G .fits) a r table′ F .behind; shows = M .shows };
           node = F .0;
           is = λ h S. F .2 h S .0 ∙ ap (root h) (I h S);
         }

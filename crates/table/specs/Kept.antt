@@ -84,7 +84,7 @@ module _ (work words : List ℕ) (l : Lifted) (st : Store) (X : Indexed work wor
   back-apart = record {
     long = back-long;
     ahead = λ i h. back-before i (omega arith);
-    beyond = λ i h. put-behind (indexAt l) (l .end - indexAt l) work fit idx many i (omega (arith, X .fits));
+    behind = λ i h. put-behind (indexAt l) (l .end - indexAt l) work fit idx many i (omega (arith, X .fits));
   }
 
   -- there is no room

@@ -4,14 +4,15 @@ use mathlib.Core.Bool.{Bool, true, false}
 use mathlib.Core.List.{List, [], _∷_}
 use Prim.Native.Nat.{ℕ, zero, suc, _+_, _-_, _≤_, _<_}
 use native.Mathlib.Omega.{arith}
-use native.Mathlib.Decide.{decLt}
 use lib.ListN.{length, getD, set, length-set}
 use lib.Seq.{getD-set-other}
 use Rattle.definition.specs.Pack.{Pack}
 use Rattle.definition.specs.Verdict.{Bound}
 use Rattle.definition.specs.Graph.{Graph}
 use Rattle.theory.specs.Walks.Resolving.{Resolving, right-fewer}
-use Rattle.base.specs.Part.{part, put, part-at, part-set, length-part, part-same, part-put, length-put, put-before, put-behind, put-at}
+use Rattle.base.specs.Lent.{back as lent-back, back-first}
+use Rattle.base.specs.Outside.{Outside}
+use Rattle.base.specs.Part.{part, put, part-at, part-set, length-part, part-same}
 use Rattle.base.specs.Probe.{taken}
 use Rattle.store.specs.declared.nodes.Store.{Store}
 use Rattle.catalog.specs.Same.{Same}
@@ -134,7 +135,7 @@ module _ (bytes work words cells : List ℕ) (c : Catalog) (l : Lifted) (t : Tab
   -- the table is as it was
   pub table-apart : tableIn t work′ ≡ tableIn t work
   unfolding part
-  table-apart = part-same (t .at) (t .end - t .at) work′ work (omega (arith, L .room, L .fits, A .long)) (omega (arith, L .room, L .fits)) (λ i p. A .beyond (t .at + i) (omega (arith, L .apart)))
+  table-apart = part-same (t .at) (t .end - t .at) work′ work (omega (arith, L .room, L .fits, A .long)) (omega (arith, L .room, L .fits)) (λ i p. A .behind (t .at + i) (omega (arith, L .apart)))
 
   -- all stands where it stood
   pub lies-apart : Lifts bytes work′ words′ c l st′ → Lies bytes work′ words′ cells c l t st′ g P h vs
@@ -151,7 +152,7 @@ module _ (bytes work words cells : List ℕ) (c : Catalog) (l : Lifted) (t : Tab
 
   -- nothing else of work has changed
   pub framed-apart : Framed cells work work′ l t
-  framed-apart = record { long = A .long; ahead = A .ahead; between = λ i p q. A .beyond i p; behind = λ i p. A .beyond i (omega (arith, L .apart)) }
+  framed-apart = record { long = A .long; ahead = A .ahead; between = λ i p q. A .behind i p; behind = λ i p. A .behind i (omega (arith, L .apart)) }
 
 -- ---- one step after another
 -- nothing was written
@@ -185,38 +186,22 @@ module _ (cells work : List ℕ) (t : Table) (g : Counts) (room : t .at + tableE
   abbrev pub lentBack : List ℕ
   lentBack = put (t .at) (t .end - t .at) table′ work
 
-  -- the table stands within
-  inside : t .at + (t .end - t .at) ≤ length work
-  inside = omega arith
-
-  -- as long as it was
-  as-long : length table′ ≡ t .end - t .at
-  as-long = F .3 .long ∙ table-long t work (omega arith) fits
-
   -- and is what came back
   pub found-table : tableIn t lentBack ≡ table′
   unfolding part
-  found-table = part-put (t .at) (t .end - t .at) work inside table′ as-long
+  found-table = lent-back (t .at) (t .end) work table′ (omega arith) fits (F .3 .long)
 
-  -- behind the rows nothing has changed
-  pub found-behind : (i : ℕ) → t .at + rowsEnd cells ≤ i → getD lentBack i 0 ≡ getD work i 0
-  found-behind i p = elim (decLt i (t .end)) [
-    | yes q ↦
-        let j : i ≡ t .at + (i - t .at) = omega arith in
-        ap (λ (k : ℕ). getD lentBack k 0) j
-        ∙ put-at (t .at) (t .end - t .at) work inside table′ as-long (i - t .at) (omega arith)
-        ∙ F .3 .words (i - t .at) (omega arith)
-        ∙ table-at t work (i - t .at) (omega arith)
-        ∙ ap (λ (k : ℕ). getD work k 0) (sym j)
-    | no q ↦ put-behind (t .at) (t .end - t .at) work inside table′ as-long i (omega (arith, q))
-  ]
+  -- outside of the rows nothing has changed
+  pub found-outside : Outside (t .at) (t .at + rowsEnd cells) work lentBack
+  unfolding part
+  found-outside = back-first (t .at) (t .end) work table′ (omega arith) fits (F .3 .long) (rowsEnd cells) (F .3 .words)
 
   -- so only rows were written
   pub found-moves : Moves cells work lentBack t g
   found-moves = record {
-    long = length-put (t .at) (t .end - t .at) work inside table′ as-long;
-    ahead = λ i p. put-before (t .at) (t .end - t .at) work inside table′ as-long i p;
-    behind = λ i p. found-behind i (omega arith);
+    long = found-outside .long;
+    ahead = found-outside .ahead;
+    behind = λ i p. found-outside .behind i (omega arith);
     shows = λ h S. subst (λ (table : List ℕ). Shows cells table g h) (sym found-table) (F .2 h S .1);
   }
 

@@ -7,7 +7,7 @@ use native.Mathlib.Omega.{arith}
 use borrow.Author.Tests.{ltb-true}
 use lib.Dec.{ltb, eqb}
 use lib.ListN.{length, drop}
-use Rattle.definition.specs.Test.{_and_, and-parts}
+use Rattle.definition.specs.Test.{and-parts}
 use Rattle.definition.specs.Little.{le}
 use Rattle.definition.specs.Pack.{Pack, symbolOf}
 use Rattle.definition.specs.Frame.{Checked, good, bad, over}

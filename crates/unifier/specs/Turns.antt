@@ -10,7 +10,7 @@ use borrow.Author.Tests.{lt-ltb, le-ltb, le-leb, lt-leb, ltb-true, eq-eqb, ne-eq
 use lib.Dec.{ltb}
 use lib.ListN.{length, getD, take, drop, length-drop, drop-of-length-le}
 use lib.Seq.{drop-cons, drop-drop, getD-drop}
-use Rattle.definition.specs.Test.{is, _and_, all, and-parts}
+use Rattle.definition.specs.Test.{_and_, all, and-parts}
 use Rattle.definition.specs.Store.{variableHead}
 use Rattle.definition.specs.Good.{Below}
 use Rattle.definition.specs.Graph.{Vertex, Graph, variableVertex, applied, push, cells as cellsOf}

@@ -6,9 +6,10 @@ use mathlib.Core.Option.{Option, none, some}
 use Prim.Native.Nat.{ℕ, _+_, _*_, _-_, _≤_, _<_}
 use native.Mathlib.Omega.{arith}
 use lib.ListN.{length, getD, set, take, drop, replicate}
-use Rattle.definition.specs.Test.{is}
 use Rattle.definition.specs.Verdict.{Bound, valueOf}
 use Rattle.definition.specs.Graph.{Graph, circular}
+use Rattle.valuation.specs.Words.{valuesEnd, valuesAt, tableIn, wordOf, Stands, stands-none, Placed, Framed, table-at, table-set, table-long, table-back, framed-back, framed-set}
+use Rattle.base.specs.Outside.{outside-then}
 use Rattle.base.specs.Part.{put}
 use Rattle.buffer.specs.Zero.{zeros-long, zeros-there, zeros-before, zeros-behind}
 use Rattle.theory.specs.Walks.Levels.{Inner}
@@ -18,7 +19,6 @@ use Rattle.graph.specs.Links.{Found}
 use Rattle.valuation.specs.declared.words.Valued.{Valued}
 use Rattle.valuation.specs.declared.words.Known.{Known}
 use Rattle.valuation.specs.declared.words.Known.the-variants.{Is, Nothing}
-use Rattle.valuation.specs.Words.{valuesAt, tableIn, wordOf, Stands, stands-none, Placed, Framed, table-at, table-set, table-long, table-back, framed-back, framed-set, framed-then}
 
 -- ---- a value is read
 abbrev pub knownAs : Known → Option ℕ
@@ -80,7 +80,7 @@ puts-pair words work l F top x n h =
     let first : List ℕ = set work (l .at + i) x in
     rw (← f, ← e) (
       table-set l first (i + 1) n (omega (arith, F .room)) ∙ ap (λ (t : List ℕ). set t (i + 1) n) (table-set l work i x (omega (arith, F .room))),
-      framed-then words l work first (set first (l .at + (i + 1)) n) (framed-set words l work i x (omega arith)) (framed-set words l first (i + 1) n (omega arith)),
+      outside-then (l .at) (l .at + valuesEnd words) work first (set first (l .at + (i + 1)) n) (framed-set words l work i x (omega arith)) (framed-set words l first (i + 1) n (omega arith)),
     )
 
 -- ---- a root is found

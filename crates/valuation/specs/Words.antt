@@ -1,5 +1,5 @@
 -- Where the values stand: in the graph's table behind the colours, the table in work behind the pack's.
-use mathlib.Core.Path.{_≡_, refl, sym, ap, _∙_}
+use mathlib.Core.Path.{_≡_, sym, ap, _∙_}
 use mathlib.Core.Bool.{false}
 use mathlib.Core.List.{List, [], _∷_}
 use mathlib.Core.Option.{Option, none, some}
@@ -7,13 +7,15 @@ use Prim.Native.Nat.{ℕ, suc, _+_, _*_, _-_, _≤_, _<_}
 use native.Mathlib.Omega.{arith}
 use native.Mathlib.Numerals.{add-one}
 use native.Mathlib.Decide.{ℕ-discrete}
-use lib.ListN.{length, getD, set, take, drop, length-set}
+use lib.ListN.{length, getD, set, take, drop}
 use lib.Seq.{getD-set-same, getD-set-other}
 use Rattle.definition.specs.Pack.{Pack}
 use Rattle.definition.specs.Verdict.{Bound, valueOf}
 use Rattle.definition.specs.Graph.{Graph, circular}
 use Rattle.definition.specs.Analysis.{pairing}
-use Rattle.base.specs.Part.{part, put, part-at, length-part, part-set, length-put, part-put, put-before, put-at, put-behind}
+use Rattle.base.specs.Lent.{back as lent-back, back-first}
+use Rattle.base.specs.Outside.{Outside, outside-wider, outside-set}
+use Rattle.base.specs.Part.{part, put, part-at, length-part, part-set}
 use Rattle.catalog.specs.Same.{endOf, Same}
 use Rattle.catalog.specs.declared.whole.Catalog.{Catalog}
 use Rattle.pack.specs.Held.{Held, OfHeld, held-on}
@@ -53,10 +55,8 @@ pub record Placed (words work : List ℕ) (l : Valued) : Type 0 where
   pub fits : l .end ≤ length work
 
 -- nothing ahead of the table or behind its values has changed
-pub record Framed (words : List ℕ) (l : Valued) (work work′ : List ℕ) : Type 0 where
-  pub long : length work′ ≡ length work
-  pub ahead : (i : ℕ) → i < l .at → getD work′ i 0 ≡ getD work i 0
-  pub behind : (i : ℕ) → l .at + valuesEnd words ≤ i → getD work′ i 0 ≡ getD work i 0
+abbrev pub Framed : List ℕ → Valued → List ℕ → List ℕ → Type 0
+Framed words l work work′ = Outside (l .at) (l .at + valuesEnd words) work work′
 
 -- work holds a pack, and behind it a graph without circles and values of its nodes
 pub record Values (bytes work words : List ℕ) (c : Catalog) (l : Valued) (s : Counts) : Type 0 where
@@ -150,52 +150,20 @@ module _ (words work : List ℕ) (l : Valued) (F : Placed words work l) where
     abbrev back : List ℕ
     back = put (l .at) (l .end - l .at) table′ work
 
-    -- it fits
-    inside : l .at + (l .end - l .at) ≤ length work
-    inside = omega (arith, F .room, F .fits)
-
-    -- it is as long as it was
-    as-long : length table′ ≡ l .end - l .at
-    as-long = U .long ∙ table-long
-
     -- it stands there as it came back
     pub table-back : tableIn l back ≡ table′
     unfolding part
-    table-back = part-put (l .at) (l .end - l .at) work inside table′ as-long
+    table-back = lent-back (l .at) (l .end) work table′ (omega (arith, F .room)) (F .fits) (U .long)
 
     -- and all else is as it was
     pub framed-back : Framed words l work back
-    framed-back = record {
-      long = length-put (l .at) (l .end - l .at) work inside table′ as-long;
-      ahead = λ i h. put-before (l .at) (l .end - l .at) work inside table′ as-long i h;
-      behind = λ i h. elim (ℕ-discrete (l .end - i) 0) [
-        | yes e ↦ put-behind (l .at) (l .end - l .at) work inside table′ as-long i (omega (arith, e, F .room))
-        | no d ↦
-            let k : i ≡ l .at + (i - l .at) = omega arith in
-            let m : i - l .at < l .end - l .at = omega (arith, d) in
-            ap (λ (j : ℕ). getD back j 0) k
-            ∙ put-at (l .at) (l .end - l .at) work inside table′ as-long (i - l .at) m
-            ∙ U .words (i - l .at) (omega arith)
-            ∙ table-at l work (i - l .at) m
-            ∙ ap (λ (j : ℕ). getD work j 0) (sym k)
-      ];
-    }
+    unfolding part
+    framed-back = outside-wider (l .at) (l .at + rowsEnd words) (l .at) (l .at + valuesEnd words) work back (omega arith) (omega arith) (back-first (l .at) (l .end) work table′ (omega (arith, F .room)) (F .fits) (U .long) (rowsEnd words) (U .words))
 
 -- ---- what has not changed
-pub framed-none : (words : List ℕ) (l : Valued) (work : List ℕ) → Framed words l work work
-framed-none words l work = record { long = refl; ahead = λ i h. refl; behind = λ i h. refl }
-
 -- a word of the table up to the values' end is written
 pub framed-set : (words : List ℕ) (l : Valued) (work : List ℕ) (i v : ℕ) → i < valuesEnd words → Framed words l work (set work (l .at + i) v)
-framed-set words l work i v h = record {
-  long = length-set work (l .at + i) v;
-  ahead = λ j m. getD-set-other work (l .at + i) j v 0 (λ e. omega (arith, e));
-  behind = λ j m. getD-set-other work (l .at + i) j v 0 (λ e. omega (arith, e));
-}
-
--- one after the other
-pub framed-then : (words : List ℕ) (l : Valued) (work work′ work″ : List ℕ) → Framed words l work work′ → Framed words l work′ work″ → Framed words l work work″
-framed-then words l work work′ work″ A B = record { long = B .long ∙ A .long; ahead = λ i h. B .ahead i h ∙ A .ahead i h; behind = λ i h. B .behind i h ∙ A .behind i h }
+framed-set words l work i v h = outside-set (l .at) (l .at + valuesEnd words) work (l .at + i) v (omega arith) (omega arith)
 
 -- the table has its room still
 pub placed-on : (words : List ℕ) (l : Valued) (work work′ : List ℕ) → Framed words l work work′ → Placed words work l → Placed words work′ l

@@ -13,6 +13,8 @@ use Rattle.definition.specs.Laws.Grow.{below-at}
 use Rattle.definition.specs.Verdict.{Bound}
 use Rattle.definition.specs.Graph.{Graph, circular}
 use Rattle.definition.specs.Analysis.{valued}
+use Rattle.valuation.specs.Words.{valuesEnd, tableIn, Stands, Placed, Framed, framed-same, placed-on}
+use Rattle.base.specs.Outside.{outside-none, outside-then}
 use Rattle.catalog.specs.Whole.{recordsOf}
 use Rattle.catalog.specs.Same.{endOf, Same, same-records}
 use Rattle.catalog.specs.declared.whole.Catalog.{Catalog}
@@ -22,7 +24,6 @@ use Rattle.theory.specs.Walks.Levels.{Inner}
 use Rattle.graph.specs.declared.graph.Graph.{Graph as Counts}
 use Rattle.graph.specs.Cells.{Shows}
 use Rattle.graph.specs.Inner.{many-nodes}
-use Rattle.valuation.specs.Words.{tableIn, Stands, Placed, Framed, framed-none, framed-then, framed-same, placed-on}
 use Rattle.valuation.specs.Stores.{Clears}
 use Rattle.valuation.specs.declared.words.Valued.{Valued}
 use Rattle.fix.specs.declared.walk.Fixed.{Fixed}
@@ -93,7 +94,7 @@ pub record Going (bytes before work cells : List ℕ) (c : Catalog) (v : Valued)
 
 pub going-none : (bytes work cells : List ℕ) (c : Catalog) (v : Valued) (g : Counts) (step n : ℕ) (instances : List ℕ) → Going bytes work work cells c v g step n instances 0
 unfolding judgmentsTo
-going-none bytes work cells c v g step n instances = record { low = omega arith; framed = framed-none cells v work; state = λ P R Q h S. ([], valued-nil (length h) P h [], S) }
+going-none bytes work cells c v g step n instances = record { low = omega arith; framed = outside-none (v .at) (v .at + valuesEnd cells) work; state = λ P R Q h S. ([], valued-nil (length h) P h [], S) }
 
 module _ (bytes before cells : List ℕ) (c : Catalog) (v : Valued) (g : Counts) (step n : ℕ) (instances : List ℕ) (B : Begun bytes before cells c v g step n instances) (work : List ℕ) (i : ℕ)
     (G : Going bytes before work cells c v g step n instances i) where
@@ -138,7 +139,7 @@ module _ (bytes before cells : List ℕ) (c : Catalog) (v : Valued) (g : Counts)
     unfolding judgmentsTo
     going-on work′ F = record {
       low = omega arith;
-      framed = framed-then cells v before work work′ (G .framed) (F .0);
+      framed = outside-then (v .at) (v .at + valuesEnd cells) before work work′ (G .framed) (F .0);
       state = λ P R Q h S.
           let w = G .state P R Q h S in
           let x = F .1 P (reads P R) Q h (w .0) (w .2) in
@@ -210,5 +211,5 @@ module _ (bytes work cells : List ℕ) (c : Catalog) (v : Valued) (g : Counts) (
   }
 
   pub gives-all : (work′ : List ℕ) (r : Fixed) → GivesFrom bytes work₁ work′ cells c v g step n instances r → GivesAll bytes work work′ cells c v g step n instances r
-  gives-all work′ Done F = (framed-then cells v work work₁ work′ (C .1) (F .0), λ P R Q h S I E. F .1 P (reads-on bytes work work₁ c same (T .held .cataloged) P R) Q h (C .0 h S I E))
+  gives-all work′ Done F = (outside-then (v .at) (v .at + valuesEnd cells) work work₁ work′ (C .1) (F .0), λ P R Q h S I E. F .1 P (reads-on bytes work work₁ c same (T .held .cataloged) P R) Q h (C .0 h S I E))
   gives-all work′ Differs F = λ P R Q h S I E. F P (reads-on bytes work work₁ c same (T .held .cataloged) P R) Q h (C .0 h S I E)

@@ -2,19 +2,17 @@
 use mathlib.Core.Path.{_≡_, sym, ap, _∙_, subst}
 use mathlib.Core.List.{List, [], _∷_}
 use mathlib.Core.Option.{none, some}
-use Prim.Native.Nat.{ℕ, suc, _+_, _≤_, _<_}
+use Prim.Native.Nat.{ℕ, suc, _<_}
 use native.Mathlib.Omega.{arith}
 use lib.ListN.{length, getD}
 use Rattle.definition.specs.Pack.{Pack, stepOf}
-use Rattle.definition.specs.Good.{Below}
 use Rattle.definition.specs.Laws.Grow.{below-at}
 use Rattle.definition.specs.Verdict.{Bound}
-use Rattle.definition.specs.Graph.{Graph}
 use Rattle.definition.specs.Analysis.{valued}
 use Rattle.catalog.specs.Whole.{recordsOf}
 use Rattle.catalog.specs.declared.whole.Catalog.{Catalog}
 use Rattle.pack.specs.Reads.{Reads, length-steps, length-nodes}
-use Rattle.pack.specs.Held.{Proper, Held, OfHeld}
+use Rattle.pack.specs.Held.{Held}
 use Rattle.pack.specs.Says.{Readable, OfPack}
 use Rattle.graph.specs.declared.graph.Graph.{Graph as Counts}
 use Rattle.valuation.specs.Words.{tableIn, Stands, Framed, Values, Says}

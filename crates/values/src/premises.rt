@@ -1,5 +1,4 @@
 // Each premise's instance against the judgment of its ref, one after the other: a root keeps the value that it has.
-use base::id::Ground;
 use base::id::Node;
 use catalog::whole::Catalog;
 use fix::walk::Fixed;
@@ -29,7 +28,7 @@ fn fix_premise(
 {
     let r = step_ref(pack, work, c, step, i) as usize;
     let n = step_judgment(pack, work, c, r);
-    fix(pack, work, cells, c, v, g, x, Ground(n))
+    fix(pack, work, cells, c, v, g, x, n)
 }
 
 // The instances of the first `n` premises of a step against the judgments of its refs, from no value on.

@@ -1,14 +1,13 @@
 -- A pattern copied so many times into one graph, and its last copy read back.
-use mathlib.Core.Bool.{true, false, _||_}
+use mathlib.Core.Bool.{true, false, _||_, Bool}
 use mathlib.Core.List.{List, []}
 use Prim.Native.Nat.{ℕ, zero, suc}
 use lib.Dec.{eqb, leb, ltb}
 use lib.ListN.{length}
-use mathlib.Core.Bool.{Bool}
 use Rattle.definition.specs.Pack.{Node, Pack}
-use Rattle.definition.specs.Graph.{Graph, Grown, cells}
-use Rattle.definition.specs.Analysis.{copied, Copy, copy}
-use Rattle.fresh.specs.Held.{marksIn}
+use Rattle.definition.specs.Graph.{Grown, cells}
+use Rattle.definition.specs.Analysis.{copied, copy}
+use Rattle.graph.specs.Cells.{marksIn}
 use Rattle.readback.specs.Came.{Came, done, refused, Left, leaves, lentTo, opened, readBack}
 use Rattle.readback.specs.Listed.{Listed, whole, broken, full, listed}
 

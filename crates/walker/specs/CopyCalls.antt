@@ -1,16 +1,16 @@
 -- The call that copies a pattern: what its steps ask and answer.
 use mathlib.Core.Path.{_≡_, refl, sym, ap, ap₂, subst, _∙_}
 use mathlib.Core.Bool.{true, false, _||_}
-use mathlib.Core.List.{List, []}
-use Prim.Native.Nat.{ℕ, zero, suc, _+_, _*_, _-_, _/_, _≤_, _<_}
+use mathlib.Core.List.{List}
+use Prim.Native.Nat.{ℕ, _+_, _*_, _/_, _≤_, _<_}
 use native.Mathlib.Omega.{arith}
 use borrow.Author.Tests.{le-leb, lt-leb, eq-eqb, ne-eqb, lt-ltb, le-ltb}
 use lib.Dec.{eqb}
-use lib.ListN.{length, getD}
-use Rattle.definition.specs.Pack.{Pack, Node as Pat}
+use lib.ListN.{length}
+use Rattle.definition.specs.Pack.{Pack}
 use Rattle.definition.specs.Frame.{fine}
 use Rattle.definition.specs.Parse.{parse}
-use Rattle.definition.specs.Graph.{Graph, Grown, cells as cellsOf}
+use Rattle.definition.specs.Graph.{Graph, cells as cellsOf}
 use Rattle.base.specs.Part.{part}
 use Rattle.base.specs.declared.id.Node.{Node}
 use Rattle.base.specs.declared.id.Pattern.{Pattern}
@@ -30,23 +30,24 @@ use Rattle.graph.specs.declared.graph.Graph.{Graph as Counts}
 use Rattle.graph.specs.Pushes.{cells-shown}
 use Rattle.graph.specs.Inner.{many-nodes}
 use Rattle.fresh.specs.declared.node.Copying.{Copying}
-use Rattle.fresh.specs.Held.{marksIn, Patterns}
+use Rattle.graph.specs.Cells.{marksIn}
+use Rattle.theory.specs.Copies.Terms.{Patterns}
 use Rattle.table.specs.declared.words.Table.{Table}
-use Rattle.table.specs.Words.{tableEnd, tableIn}
+use Rattle.table.specs.Words.{tableIn}
 use Rattle.table.specs.Kept.{lifts-on}
 use Rattle.readback.specs.declared.answer.Walk.{Walk}
 use Rattle.readback.specs.declared.answer.Walk.the-variants.{Done, Refused}
 use Rattle.walker.specs.declared.copies.Times.the-variants.{Made, Short}
 use Rattle.readback.specs.declared.list.Listed.the-variants.{Whole, Broken as NoList, Full as NoRoom}
-use Rattle.readback.specs.Came.{Came, done, refused, readBack}
+use Rattle.readback.specs.Came.{done}
 use Rattle.readback.specs.Walks.{Walks}
 use Rattle.readback.specs.Places.{Opened, held-there, Lays, lays-low, Sized, sized, Stores}
 use Rattle.readback.specs.Back.{Lying, Standing, Backs}
-use Rattle.readback.specs.Listed.{Listed, whole, broken, full, listed}
+use Rattle.readback.specs.Listed.{whole, broken, full, listed}
 use Rattle.readback.specs.Lists.{Lists}
-use Rattle.walker.specs.Plain.{Plain, plain-inner, plain-ends}
+use Rattle.walker.specs.Plain.{plain-inner, plain-ends}
 use Rattle.walker.specs.Copies.{copiedTimes, lastRead, timesRead, patternCopied, listCopied, packCopied}
-use Rattle.walker.specs.Times.{Started, timesOf, Timing, Timed, last-inside}
+use Rattle.walker.specs.Times.{Started, timesOf, Timed, last-inside}
 
 -- ---- where copying has its words: behind the store's index
 abbrev pub stackAt : Lifted → ℕ → ℕ

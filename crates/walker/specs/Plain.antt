@@ -1,5 +1,5 @@
 -- Graphs in which nothing is joined and each node rests on earlier ones: they have no circle, and copies of patterns are such.
-use mathlib.Core.Path.{_≡_, refl, sym, ap, subst, _∙_}
+use mathlib.Core.Path.{_≡_, refl, sym, ap, _∙_}
 use mathlib.Core.Bool.{Bool, true, false}
 use mathlib.Core.List.{List, [], _∷_, _++_, map}
 use mathlib.Core.Option.{none, some}
@@ -11,17 +11,16 @@ use lib.Seq.{getD-at}
 use Rattle.definition.specs.Test.{is, see, never, all, _and_}
 use Rattle.definition.specs.Pack.{Node, noNode}
 use Rattle.definition.specs.Good.{Below}
-use Rattle.definition.specs.Verdict.{Bound, valueOf}
-use Rattle.definition.specs.Store.{isVariable, below}
-use Rattle.definition.specs.Graph.{Vertex, Graph, Grown, variableVertex, applied, vertex, push, root, isVar, ends, upTo, circular, cells as cellsOf}
+use Rattle.definition.specs.Verdict.{valueOf}
+use Rattle.definition.specs.Store.{isVariable}
+use Rattle.definition.specs.Graph.{Vertex, Graph, variableVertex, applied, vertex, push, root, isVar, ends, circular, cells as cellsOf}
 use Rattle.definition.specs.Analysis.{parts, copied, pairing, Copy, copyNode, copyAll, copy}
 use Rattle.definition.specs.Laws.Grow.{below-more}
-use Rattle.theory.specs.Derive.{In}
 use Rattle.theory.specs.Unification.Forest.{root-self}
 use Rattle.theory.specs.Unification.Circle.{all-upTo}
-use Rattle.theory.specs.Copies.Terms.{Earlier, below-applied}
+use Rattle.theory.specs.Copies.Terms.{below-applied, Patterns}
 use Rattle.theory.specs.Copies.Parts.{kidsIn, kids-fall, kids-inside, in-any, parts-self}
-use Rattle.theory.specs.Copies.Copying.{copied-is, looked, newest, older, Made}
+use Rattle.theory.specs.Copies.Copying.{looked, newest, older}
 use Rattle.theory.specs.Copies.CopyNode.{copyNode-nodes}
 use Rattle.theory.specs.Walks.Walk.{Under, Known, walk}
 use Rattle.theory.specs.Walks.WalkOnce.{once-induct}
@@ -29,7 +28,6 @@ use Rattle.theory.specs.Walks.Memo.{has-value}
 use Rattle.theory.specs.Walks.Levels.{Inner}
 use Rattle.theory.specs.Walks.CopyWalk.{noCopy, isCopied, copyAt, copy-made, copy-others, copy-known, copy-walk}
 use Rattle.graph.specs.Cells.{cells-more}
-use Rattle.fresh.specs.Held.{Patterns}
 
 -- nothing is joined, each node rests on few earlier ones
 abbrev pub Plain : Graph → Type 0

@@ -1,26 +1,26 @@
 -- Copying so many times: what is held between two copies, and what is answered.
 use mathlib.Core.Path.{_≡_, refl, sym, ap, subst, _∙_}
-use mathlib.Core.Bool.{Bool}
 use mathlib.Core.List.{List, []}
-use Prim.Native.Nat.{ℕ, zero, suc, _+_, _*_, _-_, _/_, _≤_, _<_}
+use Prim.Native.Nat.{ℕ, zero, suc, _+_, _-_, _≤_, _<_}
 use native.Mathlib.Omega.{arith}
 use native.Mathlib.Numerals.{add-one}
 use native.Mathlib.Decide.{ℕ-discrete}
 use lib.ListN.{length, getD, take, drop}
-use Rattle.definition.specs.Pack.{Node}
-use Rattle.definition.specs.Graph.{Graph, Grown, cells as cellsOf}
-use Rattle.definition.specs.Analysis.{copied, Copy, copy}
-use Rattle.base.specs.Part.{part, put, part-same, length-part, length-put, part-put, put-before, put-behind}
+use Rattle.definition.specs.Graph.{Grown, cells as cellsOf}
+use Rattle.definition.specs.Analysis.{copied}
+use Rattle.base.specs.Part.{part, put, part-same, length-part, length-put, part-put, put-before}
 use Rattle.base.specs.declared.id.Node.{Node as Id}
 use Rattle.store.specs.Stored.{Stored, nodes}
 use Rattle.memo.specs.Recall.{Remembers}
 use Rattle.store.specs.declared.nodes.Store.{Store}
 use Rattle.memo.specs.declared.memo.Memo.{Memo}
 use Rattle.graph.specs.declared.graph.Graph.{Graph as Counts}
-use Rattle.graph.specs.Cells.{rowsEnd, Shows}
+use Rattle.graph.specs.Cells.{Shows, marksIn}
 use Rattle.fresh.specs.declared.node.Copying.{Copying}
-use Rattle.fresh.specs.declared.node.Copied.the-variants as answers
-use Rattle.fresh.specs.Held.{indexIn, tableIn, graphIn, marksIn, Patterns, Laid, Given, Copies}
+use Rattle.copy.specs.declared.walk.Copied.the-variants as answers
+use Rattle.copy.specs.Held.{indexIn, graphIn, Laid, Given, Copies}
+use Rattle.fresh.specs.Held.{tableIn}
+use Rattle.theory.specs.Copies.Terms.{Patterns}
 use Rattle.walker.specs.declared.copies.Times.{Times}
 use Rattle.walker.specs.declared.copies.Times.the-variants.{Made, Short}
 use Rattle.walker.specs.Copies.{copiedTimes}

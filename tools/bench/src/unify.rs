@@ -185,13 +185,15 @@ enum Outcome {
 }
 use Outcome::{Circle, Clash, Joined};
 
-/// Of Robinson, A Machine-Oriented Logic Based on the Resolution Principle (1965), section 5,
-/// the set whose most general unifier is worked out and, by twos, the three of the
-/// disagreement set; two of Chang and Lee, Symbolic Logic and Mechanical Theorem Proving
-/// (1973), on unification; the one of Martelli and Montanari, An Efficient Unification
-/// Algorithm (1982); and pairs that only Robinson's test of a variable inside its own term
-/// tells apart. All are cited from memory; the texts were not at hand.
-const EXAMPLES: [Example; 10] = [
+/// Of Robinson, A Machine-Oriented Logic Based on the Resolution Principle (1965): the set
+/// whose most general unifier is worked out and, by twos, the three of the disagreement set
+/// (section 5), and the two clauses whose refutation no search of Herbrand's levels would find
+/// (section 4), with their variables apart and, as he writes them, with one name in both; two of
+/// Chang and Lee, Symbolic Logic and Mechanical Theorem Proving (1973), on unification; the one
+/// of Martelli and Montanari, An Efficient Unification Algorithm (1982); and pairs that only
+/// Robinson's test of a variable inside its own term tells apart. All are cited from memory; the
+/// texts were not at hand.
+const EXAMPLES: [Example; 12] = [
     Example {
         left: "P(a,x,h(g(z)))",
         right: "P(z,h(y),h(y))",
@@ -211,6 +213,23 @@ const EXAMPLES: [Example; 10] = [
         left: "P(x,k(y),y)",
         right: "P(x,a,b)",
         outcome: Clash,
+    },
+    Example {
+        left: "Q(x,g(x),y,h(x,y),z,k(x,y,z))",
+        right: "Q(u,v,e(v),w,f(v,w),x2)",
+        outcome: Joined(&[
+            ("x", "u"),
+            ("v", "g(u)"),
+            ("y", "e(g(u))"),
+            ("w", "h(u,e(g(u)))"),
+            ("z", "f(g(u),h(u,e(g(u))))"),
+            ("x2", "k(u,e(g(u)),f(g(u),h(u,e(g(u)))))"),
+        ]),
+    },
+    Example {
+        left: "Q(x,g(x),y,h(x,y),z,k(x,y,z))",
+        right: "Q(u,v,e(v),w,f(v,w),x)",
+        outcome: Circle,
     },
     Example {
         left: "P(a,x,f(g(y)))",

@@ -1,21 +1,20 @@
 -- The verdict of a good pack: none just where every step passes and every goal is met; else the first that fails.
-use mathlib.Core.Path.{_≡_, refl, sym, ap, ap₂, _∙_, subst}
-use mathlib.Core.Bool.{Bool, true, false, _||_}
+use mathlib.Core.Path.{_≡_, refl, sym, ap, _∙_, subst}
+use mathlib.Core.Bool.{Bool, true, false}
 use mathlib.Core.List.{List, [], _∷_, map}
 use mathlib.Core.Option.{Option, none, some}
-use Prim.Native.Nat.{ℕ, zero, suc, _+_, _-_, _<_, _≤_}
+use Prim.Native.Nat.{ℕ, zero, suc, _+_, _<_}
 use native.Mathlib.Omega.{arith}
 use borrow.Author.Tests.{eqb-true, eq-eqb}
 use lib.Dec.{eqb}
 use lib.ListN.{length, getD}
-use Rattle.definition.specs.Test.{Is, is, see, never, _and_, and-parts, any, same, same-true, same-refl}
-use Rattle.definition.specs.Pack.{Rule, Step, Goal, Result, Pack, noStep, ruleOf, stepOf}
-use Rattle.definition.specs.Tree.{Tree, Trees, tree-then, noTree, pick, trees, treeOf, turn, turns}
+use Rattle.definition.specs.Test.{is, see, never, _and_, and-parts, any, same, same-true, same-refl}
+use Rattle.definition.specs.Pack.{Goal, Pack, noStep, ruleOf, stepOf}
+use Rattle.definition.specs.Tree.{Tree, tree-then, noTree, pick, trees, treeOf}
 use Rattle.definition.specs.Laws.Grow.{below-more}
-use Rattle.definition.specs.Good.{Below, GoodStep, GoodJudgment, Good, Once}
-use Rattle.definition.specs.Verdict.{judgments, Passes, noGoal, noResult, Met, Accepted, Bound, valueOf, onwards, matches, matchAll, matched, passes, met, firstFailing, verdict}
-use Rattle.definition.specs.Laws.Matches.{Agrees, Extends, Given, sound, sound-all, Found, complete, complete-all}
-use Rattle.definition.specs.declared.Refusal.{Refusal}
+use Rattle.definition.specs.Good.{Below, Good, Once}
+use Rattle.definition.specs.Verdict.{judgments, Passes, noGoal, noResult, Met, Accepted, Bound, valueOf, onwards, matched, passes, met, firstFailing, verdict}
+use Rattle.definition.specs.Laws.Matches.{Agrees, Given, sound, sound-all, complete, complete-all}
 use Rattle.definition.specs.declared.Refusal.the-variants.{Step as StepFails, Goal as GoalFails}
 
 matched-some : (r : Option (List Bound)) → matched r ≡ true → (cs : List Bound) × (r ≡ some cs)

@@ -1,19 +1,18 @@
 -- What a yes and a no of check mean, of bytes.
-use mathlib.Core.Path.{_≡_, refl}
+use mathlib.Core.Path.{_≡_}
 use mathlib.Core.List.{List}
-use mathlib.Core.Option.{Option, none, some}
+use mathlib.Core.Option.{none, some}
 use Prim.Native.Nat.{ℕ}
 use lib.ListN.{length}
 use Rattle.definition.specs.Test.{is, see, never}
 use Rattle.definition.specs.Pack.{Pack}
-use Rattle.definition.specs.Frame.{Read, fine, refuse}
+use Rattle.definition.specs.Frame.{fine, refuse}
 use Rattle.definition.specs.Parse.{parse}
 use Rattle.definition.specs.Answer.{lengths}
-use Rattle.definition.specs.Verdict.{Accepted, verdict}
+use Rattle.definition.specs.Verdict.{Accepted}
 use Rattle.definition.specs.Check.{checkLent, checkRefusal}
 use Rattle.definition.specs.Laws.Good.{parsed-good, parsed-once}
 use Rattle.definition.specs.Laws.Agreement.{verdict-accepts, accepted-verdict}
-use Rattle.definition.specs.declared.Refusal.{Refusal}
 
 -- "A yes holds just in that case": the bytes are a pack that is accepted
 pub check-yes : (s : List ℕ) (work : ℕ) → checkRefusal s work ≡ none → (P : Pack) × (parse s ≡ fine P) × Accepted P

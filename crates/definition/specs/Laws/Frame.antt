@@ -1,17 +1,15 @@
 -- What reading says: the tests of a record that was taken, read off one by one, and what holds of all records together.
 use mathlib.Core.Path.{_≡_, refl, sym, ap, _∙_}
 use mathlib.Core.Bool.{Bool, true, false}
-use mathlib.Core.List.{List, [], _∷_, _++_}
+use mathlib.Core.List.{List, [], _∷_}
 use Prim.Native.Nat.{ℕ, zero, suc, _+_, _≤_, _<_}
 use native.Mathlib.Omega.{arith}
 use borrow.Author.Tests.{leb-true}
-use lib.Dec.{leb}
 use lib.ListN.{length, take, drop}
-use lib.Seq.{length-take-le}
-use Rattle.definition.specs.Test.{Is, is, see, never, tests}
+use Rattle.definition.specs.Test.{is, see, never}
 use Rattle.definition.specs.Little.{le}
 use Rattle.definition.specs.declared.Refusal.the-variants.{Form, Limit}
-use Rattle.definition.specs.Frame.{Checked, good, bad, over, _>>=_, right, within, Read, fine, refuse, Kinds, Record, record-of, records}
+use Rattle.definition.specs.Frame.{Checked, good, bad, over, _>>=_, right, within, fine, refuse, Kinds, Record, record-of, records}
 
 pub good-eq : {A : Type 0} {a b : A} → good a ≡ good b → a ≡ b
 good-eq e = cc

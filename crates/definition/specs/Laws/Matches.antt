@@ -1,20 +1,20 @@
 -- The verdict: what is computed is what is stated, in both directions.
 use mathlib.Core.Path.{_≡_, refl, sym, ap, ap₂, _∙_, subst}
-use mathlib.Core.Bool.{Bool, true, false}
-use mathlib.Core.List.{List, [], _∷_, map}
+use mathlib.Core.Bool.{true, false}
+use mathlib.Core.List.{List, [], _∷_}
 use mathlib.Core.Option.{Option, none, some}
-use Prim.Native.Nat.{ℕ, zero, suc, _+_, _-_, _<_, _≤_}
+use Prim.Native.Nat.{ℕ, _<_}
 use native.Mathlib.Omega.{arith}
-use borrow.Author.Tests.{eqb-true, eqb-false, eq-eqb, ne-eqb}
+use borrow.Author.Tests.{eqb-true, eq-eqb, ne-eqb}
 use lib.Dec.{eqb}
-use lib.ListN.{length, getD}
-use Rattle.definition.specs.Test.{Is, is, see, never}
-use Rattle.definition.specs.Pack.{Term, Terms, var, app, nil, cons, Rule, Node, Step, Pack, noStep, ruleOf, nodeOf, stepOf}
-use Rattle.definition.specs.Tree.{Tree, Trees, tree, no-trees, tree-then, noTree, pick, trees, treeOf, turn, turns}
+use lib.ListN.{length}
+use Rattle.definition.specs.Test.{is, see, never}
+use Rattle.definition.specs.Pack.{Term, Terms, var, app, nil, cons, Pack, nodeOf}
+use Rattle.definition.specs.Tree.{Tree, Trees, tree, tree-then, pick, trees, treeOf, turn, turns}
 use Rattle.definition.specs.Laws.Tree.{args-below, tree-node, tree-once}
 use Rattle.definition.specs.Laws.Grow.{below-more}
-use Rattle.definition.specs.Good.{Below, GoodStep, GoodJudgment, Good, Once}
-use Rattle.definition.specs.Verdict.{judgments, Passes, Bound, valueOf, bound, provided, onwards, matches, matchAll, matched, passes}
+use Rattle.definition.specs.Good.{Below, Good, Once}
+use Rattle.definition.specs.Verdict.{Bound, valueOf, bound, provided, onwards, matches, matchAll}
 
 -- an assignment that gives each variable the tree of its value
 abbrev pub Agrees : Pack → (ℕ → Tree) → List Bound → Type 0

@@ -1,15 +1,13 @@
 -- What a run's notes say of its answer.
 use mathlib.Core.Path.{_≡_, refl}
-use mathlib.Core.Bool.{Bool, true, false}
+use mathlib.Core.Bool.{true, false}
 use mathlib.Core.List.{List, [], _∷_, _++_}
-use mathlib.Core.Option.{Option, none, some}
-use Prim.Native.Nat.{ℕ}
+use mathlib.Core.Option.{none, some}
 use Rattle.definition.specs.Test.{is, see, never, and-parts, all, _and_}
-use Rattle.definition.specs.Frame.{Read, fine, refuse}
+use Rattle.definition.specs.Frame.{fine, refuse}
 use Rattle.definition.specs.Answer.{Lent}
 use Rattle.definition.specs.Run.{Note, Run, done, stop, behind, _>>=_, notes, hasRoom, LongEnough, firstShort, outcome}
 use Rattle.definition.specs.declared.Refusal.{Refusal}
-use Rattle.definition.specs.declared.Refusal.the-variants.{Short}
 
 -- every write has room just where none is the first without
 pub room-none : (l : Lent) (ns : List Note) → all (hasRoom l) ns ≡ true → firstShort l ns ≡ none

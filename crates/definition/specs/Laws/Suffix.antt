@@ -8,7 +8,7 @@ use lib.Seq.{drop-cons}
 use Rattle.definition.specs.Pack.{prop, Term, Terms, var, app, nil, cons, Pack, symbolOf}
 use Rattle.definition.specs.Certificate.{count}
 use Rattle.definition.specs.Theory.{variable}
-use Rattle.definition.specs.Good.{Sorted, SortedAll, Judgments}
+use Rattle.definition.specs.Good.{SortedAll, Judgments}
 use Rattle.definition.specs.Laws.Prefix.{termWords, termsWords}
 
 -- terms, then others

@@ -8,7 +8,7 @@ use lib.ListN.{length}
 use Rattle.definition.specs.Pack.{prop, Symbol, Term, Terms, var, app, nil, cons, Rule, Node, Step, Goal, Result, Cut, Abstract, Pack, noSymbol, noRule, noNode, noStep, symbolOf, ruleOf, nodeOf, stepOf, sortOf}
 use Rattle.definition.specs.Theory.{isName}
 use Rattle.definition.specs.Verdict.{noGoal, noResult}
-use Rattle.definition.specs.Good.{noCut, noAbstract, Below, Sorted, SortedAll, Judgments, Arguments, GoodSymbol, GoodRule, GoodNode, GoodJudgment, GoodStep, GoodGoal, GoodResult, GoodCut, GoodAbstract, Good, Once, Few}
+use Rattle.definition.specs.Good.{noCut, noAbstract, Sorted, SortedAll, Judgments, Arguments, GoodSymbol, GoodRule, GoodNode, GoodJudgment, GoodStep, GoodGoal, GoodResult, GoodCut, GoodAbstract, Good, Once, Few}
 use Rattle.definition.specs.Laws.Grow.{below-more, Fresh, Grown, Begins, grown-begins, each-grown, distinct-grown, few-grown}
 
 -- what a record makes of a pack: lists that are as they were, or one thing more that is good, new and not too many

@@ -1,5 +1,5 @@
 -- What a node, a step, a goal, a result, a cut and an abstract that were taken are like.
-use mathlib.Core.Path.{_≡_, refl, subst}
+use mathlib.Core.Path.{_≡_, subst}
 use mathlib.Core.Bool.{true, not}
 use mathlib.Core.List.{List, [], _∷_}
 use Prim.Native.Nat.{ℕ, _-_, _/_}
@@ -7,7 +7,7 @@ use native.Mathlib.Omega.{arith}
 use borrow.Author.Tests.{ltb-true, eqb-true, eqb-false, eq-eqb, not-true}
 use lib.Dec.{eqb, ltb}
 use lib.ListN.{length, drop}
-use Rattle.definition.specs.Test.{never, _and_, and-parts, same-refl}
+use Rattle.definition.specs.Test.{never, _and_, and-parts}
 use Rattle.definition.specs.Little.{le}
 use Rattle.definition.specs.Pack.{prop, Node, Step, Goal, Result, Cut, Abstract, Pack, noNode, symbolOf, ruleOf, sortOf}
 use Rattle.definition.specs.Frame.{good}

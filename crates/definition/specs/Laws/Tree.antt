@@ -1,16 +1,15 @@
 -- What ground nodes stand for: the tree of a node is its head over the trees of its arguments, and no two nodes have one tree.
 use mathlib.Core.Path.{_≡_, refl, sym, ap, ap₂, _∙_}
 use mathlib.Core.List.{List, [], _∷_, _++_}
-use Prim.Native.Nat.{ℕ, zero, suc, _+_, _-_, _<_, _≤_}
-use native.Mathlib.Decide.{decLt}
+use Prim.Native.Nat.{ℕ, zero, suc, _+_, _<_}
 use native.Mathlib.Omega.{arith}
 use lib.ListN.{length, getD, length-append, List·getD-append}
 use lib.Seq.{getD-at}
 use Rattle.definition.specs.Test.{never}
-use Rattle.definition.specs.Pack.{Node, Pack, noNode, nodeOf, symbolOf, sortOf}
-use Rattle.definition.specs.Tree.{Tree, Trees, tree, no-trees, tree-then, noTree, pick, grow, trees, treeOf}
+use Rattle.definition.specs.Pack.{Node, Pack, noNode, nodeOf, symbolOf}
+use Rattle.definition.specs.Tree.{Tree, Trees, tree, tree-then, noTree, pick, grow, trees, treeOf}
 use Rattle.definition.specs.Laws.Grow.{below-more}
-use Rattle.definition.specs.Good.{Below, Arguments, GoodNode, Good, Once}
+use Rattle.definition.specs.Good.{Below, Arguments, Good, Once}
 
 -- arguments are earlier nodes
 pub arguments-below : (P : Pack) (i : ℕ) (ss args : List ℕ) → Arguments P i ss args → Below i args

@@ -1,12 +1,10 @@
 -- Rows on nodes, steps, goals, results, cuts and abstract.
-use mathlib.Core.Path.{_≡_, refl}
+use mathlib.Core.Path.{refl}
 use mathlib.Core.List.{List, [], _∷_, _++_}
-use Prim.Native.Nat.{ℕ, _+_}
-use Rattle.definition.specs.Pack.{prop}
 use Rattle.definition.specs.Encode.{putRecord}
-use Rattle.definition.specs.Rows.Say.{sort, symbol, rule, node, step, goal, result, cut, abstract, nested, times, X}
-use Rattle.definition.specs.Rows.Front.{sorts, symbols, rules, nodes}
-use Rattle.definition.specs.Rows.Row.{Row, check, lent, reading, Claim, seen, Holds}
+use Rattle.definition.specs.Rows.Say.{node, step, goal, result, cut, abstract}
+use Rattle.definition.specs.Rows.Front.{nodes}
+use Rattle.definition.specs.Rows.Row.{Row, check, Claim, seen, Holds}
 
 -- a new node
 abbrev node-good : Row

@@ -1,12 +1,11 @@
 -- Rows on classes, patterns and figures.
-use mathlib.Core.Path.{_≡_, refl}
-use mathlib.Core.Bool.{true, false}
+use mathlib.Core.Path.{refl}
 use mathlib.Core.List.{List, [], _∷_, _++_}
-use Prim.Native.Nat.{ℕ, _+_}
+use Prim.Native.Nat.{_+_}
 use Rattle.definition.specs.Pack.{prop}
 use Rattle.definition.specs.Store.{nothing, variableHead}
-use Rattle.definition.specs.Rows.Say.{bytes, sort, symbol, rule, node, step, goal, result, cut, abstract, X}
-use Rattle.definition.specs.Rows.Row.{Row, classes, built, shown, slotted, unified, Claim, seen, Holds}
+use Rattle.definition.specs.Rows.Say.{sort, symbol, rule, node, step, goal, result, cut, abstract, X}
+use Rattle.definition.specs.Rows.Row.{Row, classes, built, Claim, seen, Holds}
 
 -- ★ the empty pack: no class
 abbrev empty-classes : Row

@@ -1,9 +1,7 @@
 -- Rows on the lengths ahead of the pack.
-use mathlib.Core.Path.{_≡_, refl}
-use mathlib.Core.List.{List, [], _∷_, _++_}
-use Prim.Native.Nat.{ℕ, _+_}
-use Rattle.definition.specs.Answer.{Lent}
-use Rattle.definition.specs.Rows.Row.{Row, check, lent, reading, Claim, seen, Holds}
+use mathlib.Core.Path.{refl}
+use mathlib.Core.List.{List, [], _∷_}
+use Rattle.definition.specs.Rows.Row.{Row, check, lent, Claim, seen, Holds}
 
 -- 2^24 bytes pass
 abbrev pack-most : Row

@@ -1,13 +1,12 @@
 -- Rows on the limits, one below, at and above.
-use mathlib.Core.Path.{_≡_, refl}
+use mathlib.Core.Path.{refl}
 use mathlib.Core.List.{List, [], _∷_, _++_}
-use Prim.Native.Nat.{ℕ, _+_}
-use Rattle.definition.specs.Pack.{prop, noSymbol, noRule, Pack}
+use Rattle.definition.specs.Pack.{noSymbol, noRule}
 use lib.ListN.{replicate}
 use Rattle.definition.specs.Encode.{put, putRecord}
-use Rattle.definition.specs.Rows.Say.{sort, symbol, rule, node, step, goal, result, cut, abstract, nested, times, X}
+use Rattle.definition.specs.Rows.Say.{sort, symbol, rule, nested, times}
 use Rattle.definition.specs.Rows.Front.{sorts, symbols, rules, nodes}
-use Rattle.definition.specs.Rows.Row.{Row, check, lent, reading, Claim, seen, Holds}
+use Rattle.definition.specs.Rows.Row.{Row, check, reading, Claim, seen, Holds}
 
 -- arity 16 passes
 abbrev arity-16 : Row

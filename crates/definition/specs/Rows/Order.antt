@@ -1,12 +1,9 @@
 -- Rows on the order of refusals and writes in class building, and on shown goals.
-use mathlib.Core.Path.{_≡_, refl}
-use mathlib.Core.Bool.{true, false}
+use mathlib.Core.Path.{refl}
 use mathlib.Core.List.{List, [], _∷_, _++_}
-use Prim.Native.Nat.{ℕ, _+_}
 use Rattle.definition.specs.Pack.{prop}
-use Rattle.definition.specs.Store.{nothing, variableHead}
-use Rattle.definition.specs.Rows.Say.{bytes, sort, symbol, rule, node, step, goal, result, cut, abstract, X}
-use Rattle.definition.specs.Rows.Row.{Row, classes, built, shown, slotted, unified, Claim, seen, Holds}
+use Rattle.definition.specs.Rows.Say.{bytes, sort, symbol, rule, node, step, goal, result, cut, X}
+use Rattle.definition.specs.Rows.Row.{Row, classes, shown, Claim, seen, Holds}
 
 -- the refs' judgments together are no instance
 abbrev together : Row

@@ -5,8 +5,7 @@ use mathlib.Core.Option.{Option, none, some}
 use Prim.Native.Nat.{ℕ}
 use lib.ListN.{length}
 use Rattle.definition.specs.Pack.{Pack}
-use Rattle.definition.specs.Frame.{right, within, Read, fine, refuse, records}
-use Rattle.definition.specs.Frame.{_>>=_ as _>>=f_}
+use Rattle.definition.specs.Frame.{right, within, Read, fine, refuse, records, _>>=_ as _>>=f_}
 use Rattle.definition.specs.Run.{_>>=_ as _>>=r_}
 use Rattle.definition.specs.Parse.{kinds, takeRecord}
 use Rattle.definition.specs.Answer.{answer, Lent, lengths}

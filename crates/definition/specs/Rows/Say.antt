@@ -1,8 +1,8 @@
 -- Packs for worked examples, written so that they can be read.
 use mathlib.Core.Path.{_≡_, refl}
 use mathlib.Core.List.{List, [], _∷_, _++_}
-use Prim.Native.Nat.{ℕ, zero, suc, _+_, _-_}
-use Prim.Native.Char.{Char, code}
+use Prim.Native.Nat.{ℕ, zero, suc, _-_}
+use Prim.Native.Char.{code}
 use Prim.Native.String.{String, [] as ε, _∷_ as _⊳_}
 use lib.ListN.{length, replicate}
 use Rattle.definition.specs.Encode.{put, putWords, putRecord}

@@ -1,6 +1,6 @@
 -- The small packs: one table, one theorem.
 use mathlib.Core.List.{List, [], _∷_, _++_}
-use Rattle.definition.specs.Rows.Row.{Row, Claim, Holds}
+use Rattle.definition.specs.Rows.Row.{Row, Holds}
 use Rattle.definition.specs.Rows.Length.{rows as length-rows, hold as length-hold}
 use Rattle.definition.specs.Rows.Name.{rows as name-rows, hold as name-hold}
 use Rattle.definition.specs.Rows.Theory.{rows as theory-rows, hold as theory-hold}

@@ -1,11 +1,11 @@
 -- Rows on the sorts of symbols and rules.
-use mathlib.Core.Path.{_≡_, refl}
+use mathlib.Core.Path.{refl}
 use mathlib.Core.List.{List, [], _∷_, _++_}
-use Prim.Native.Nat.{ℕ, _+_}
+use Prim.Native.Nat.{_+_}
 use Rattle.definition.specs.Pack.{prop}
-use Rattle.definition.specs.Rows.Say.{sort, symbol, rule, node, step, goal, result, cut, abstract, nested, times, X}
-use Rattle.definition.specs.Rows.Front.{sorts, symbols, rules, nodes}
-use Rattle.definition.specs.Rows.Row.{Row, check, lent, reading, Claim, seen, Holds}
+use Rattle.definition.specs.Rows.Say.{sort, symbol, rule, X}
+use Rattle.definition.specs.Rows.Front.{symbols, rules}
+use Rattle.definition.specs.Rows.Row.{Row, check, Claim, seen, Holds}
 
 -- an output sort that is not there
 abbrev output-unknown : Row

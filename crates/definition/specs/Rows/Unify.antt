@@ -1,11 +1,10 @@
 -- Rows on unification's order and on the histogram's slots.
-use mathlib.Core.Path.{_≡_, refl}
+use mathlib.Core.Path.{refl}
 use mathlib.Core.Bool.{true, false}
-use mathlib.Core.List.{List, [], _∷_, _++_}
-use Prim.Native.Nat.{ℕ, _+_}
+use mathlib.Core.List.{List, [], _∷_}
 use Rattle.definition.specs.Store.{nothing}
 use Rattle.definition.specs.Graph.{variableVertex, applied}
-use Rattle.definition.specs.Rows.Row.{Row, classes, built, shown, slotted, unified, Claim, seen, Holds}
+use Rattle.definition.specs.Rows.Row.{Row, slotted, unified, Claim, seen, Holds}
 
 -- a class of 1
 abbrev slot-1 : Row

@@ -1,10 +1,10 @@
 -- Rows on the verdict.
-use mathlib.Core.Path.{_≡_, refl}
+use mathlib.Core.Path.{refl}
 use mathlib.Core.List.{List, [], _∷_, _++_}
-use Prim.Native.Nat.{ℕ, _+_}
+use Prim.Native.Nat.{ℕ}
 use Rattle.definition.specs.Pack.{prop}
-use Rattle.definition.specs.Rows.Say.{sort, symbol, rule, node, step, goal, result, cut, abstract, nested, times, X}
-use Rattle.definition.specs.Rows.Row.{Row, check, lent, reading, Claim, seen, Holds}
+use Rattle.definition.specs.Rows.Say.{sort, symbol, rule, node, step, goal, result, cut, X}
+use Rattle.definition.specs.Rows.Row.{Row, check, Claim, seen, Holds}
 
 -- the worked example's theory
 abbrev natRules : List ℕ

@@ -2,7 +2,7 @@
 use mathlib.Core.Path.{_≡_, refl, sym, ap, ap₂, _∙_}
 use mathlib.Core.Bool.{true, false}
 use mathlib.Core.List.{List, [], _∷_, _++_}
-use Prim.Native.Nat.{ℕ, zero, suc, _+_, _<_}
+use Prim.Native.Nat.{ℕ, zero, suc, _+_, _≤_, _<_}
 use native.Mathlib.Omega.{arith}
 use lib.ListN.{length, getD, List·getD-append}
 use lib.Seq.{getD-at}
@@ -15,6 +15,12 @@ use Rattle.definition.specs.Laws.Grow.{below-more, length-more}
 -- each node rests on earlier ones
 abbrev pub Earlier : List Node → Type 0
 Earlier s = (n : ℕ) → n < length s → Below n (below (getD s n noNode))
+
+-- a store of patterns: variables have a number and a sort, applications at most 16 arguments
+pub record Patterns (s : List Node) : Type 0 where
+  pub earlier : Earlier s
+  pub twos : (p : ℕ) → p < length s → isVariable (getD s p noNode) ≡ true → length (getD s p noNode .args) ≡ 2
+  pub few : (p : ℕ) → p < length s → isVariable (getD s p noNode) ≡ false → length (getD s p noNode .args) ≤ 16
 
 -- the terms of these numbers of a store
 unfoldable pub termsAt : List Node → List ℕ → Terms

@@ -23,23 +23,23 @@ word-requires : tie.Need-word-requires Inv-loop μ-loop
 word-requires c κs = omega (arith, c .before .before .before .before .before .before .pre .room)
 
 returns : tie.Need-returns Inv-loop μ-loop
-returns c = fit-outside _ _ _ _ _ _ (c .before .before .before .before .before .before .before .before .pre) (c .before .before .before .loop .i) _ (omega arith) (c .before .word .ensures) (c .before .before .before .loop .inv) (omega (arith, c .before .before .before .before .count .ensures))
+returns c = fit-outside _ _ _ _ _ _ (c .before .before .before .before .before .before .before .before .before .pre) (c .before .before .before .before .loop .i) _ (omega arith) (c .before .before .word .ensures) (c .before .before .before .before .loop .inv) (omega (arith, c .before .before .before .before .before .count .ensures))
 
 node-sort-requires : tie.Need-node-sort-requires Inv-loop μ-loop
 node-sort-requires c κs =
-    let A = c .before .before .before .before .before .before .before .before .pre in
-    (readable _ _ _ (A .cataloged) (A .sound), omega (arith, c .before .before .before .before .count .ensures), argument-headed _ _ _ _ _ _ A _ (omega (arith, c .before .before .before .before .count .ensures)))
+    let A = c .before .before .before .before .before .before .before .before .before .pre in
+    (readable _ _ _ (A .cataloged) (A .sound), omega (arith, c .before .before .before .before .before .count .ensures), argument-headed _ _ _ _ _ _ A _ (omega (arith, c .before .before .before .before .before .count .ensures)))
 
 symbol-input-requires : tie.Need-symbol-input-requires Inv-loop μ-loop
 symbol-input-requires c κs =
-    let A = c .before .before .before .before .before .before .before .before .before .pre in
+    let A = c .before .before .before .before .before .before .before .before .before .before .pre in
     (readable _ _ _ (A .cataloged) (A .sound), A .symbol, input-there _ _ _ _ _ _ A _ (omega arith))
 
 returns-2 : tie.Need-returns-2 Inv-loop μ-loop
-returns-2 c = fit-unsorted _ _ _ _ _ _ (c .before .before .before .before .before .before .before .before .before .before .before .pre) (c .before .before .before .before .before .before .loop .i) _ (omega arith) (c .before .before .before .before .word .ensures) (c .before .before .before .before .before .before .loop .inv) _ _ (c .before .before .node-sort .ensures) (c .before .symbol-input .ensures) (c .if2 .taken)
+returns-2 c = fit-unsorted _ _ _ _ _ _ (c .before .before .before .before .before .before .before .before .before .before .before .before .pre) (c .before .before .before .before .before .before .before .loop .i) _ (omega arith) (c .before .before .before .before .before .word .ensures) (c .before .before .before .before .before .before .before .loop .inv) _ _ (c .before .before .node-sort .ensures) (c .before .symbol-input .ensures) (c .if2 .taken)
 
 loop-again : tie.Need-loop-again Inv-loop μ-loop
-loop-again c = fit-turn _ _ _ _ _ _ (c .before .before .before .before .before .before .before .before .before .before .before .pre) (c .before .before .before .before .before .before .loop .i) _ (omega arith) (c .before .before .before .before .word .ensures) (c .before .before .before .before .before .before .loop .inv) _ _ (c .before .before .node-sort .ensures) (c .before .symbol-input .ensures) (omega (arith, c .before .before .before .before .before .before .before .count .ensures)) (c .if2 .left)
+loop-again c = fit-turn _ _ _ _ _ _ (c .before .before .before .before .before .before .before .before .before .before .before .before .pre) (c .before .before .before .before .before .before .before .loop .i) _ (omega arith) (c .before .before .before .before .before .word .ensures) (c .before .before .before .before .before .before .before .loop .inv) _ _ (c .before .before .node-sort .ensures) (c .before .symbol-input .ensures) (omega (arith, c .before .before .before .before .before .before .before .before .count .ensures)) (c .if2 .left)
 
 returns-3 : tie.Need-returns-3 Inv-loop μ-loop
 returns-3 c = fit-end _ _ _ _ _ _ (c .before .before .before .before .before .before .pre) (c .before .loop .i) (omega arith) (c .before .loop .inv)

@@ -1,12 +1,12 @@
 -- `advance` meets its contract: with each turn one argument more ends.
 use borrow.Author.Needs.{needs}
-use mathlib.Core.Path.{_≡_, _∙_}
+use mathlib.Core.Path.{_∙_}
 use Prim.Native.Nat.{_+_, _*_, _-_}
 use native.Mathlib.Omega.{arith}
-use lib.ListN.{length, length-set}
+use lib.ListN.{length-set}
 use Rattle.graph.specs.Cells.{rowsEnd, unchanged-same, unchanged-then}
 use Rattle.circle.specs.Circles.{Steppings, stepping-ready, stepping-ends, stepping-deeper, stepping-circle, walking-here, walking-laid}
-use Rattle.circle.specs.Words.{coloursEnd, pathIn, colourIn, Beyond}
+use Rattle.circle.specs.Words.{pathIn, colourIn, Beyond}
 use Rattle.circle.specs.Turns.{walking-low, node-there, node-inside, advance-first, advance-done}
 use Rattle.circle.proofs.walk.advance.Statement.{statement}
 use Rattle.circle.proofs.walk.advance.Tie as tie

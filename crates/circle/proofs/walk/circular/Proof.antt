@@ -1,9 +1,8 @@
 -- `circular` meets its contract: with each node one more was seen.
 use borrow.Author.Needs.{needs}
-use mathlib.Core.Path.{_≡_, refl, _∙_}
+use mathlib.Core.Path.{_≡_, refl}
 use Prim.Native.Nat.{_-_}
 use native.Mathlib.Omega.{arith}
-use lib.ListN.{length}
 use Rattle.graph.specs.Cells.{unchanged-same, unchanged-then}
 use Rattle.circle.specs.Circles.{few-nodes, Tellings, telling-ready, telling-on, telling-circle, telling-done}
 use Rattle.circle.specs.Words.{pathIn, colourIn, Beyond}

@@ -1,5 +1,4 @@
 -- `pass_terms` meets its contract: ahead of each word as many terms are to come as `left` says.
-use borrow.Author.Needs.{needs}
 use mathlib.Core.Path.{_≡_}
 use Prim.Native.Nat.{_-_}
 use native.Mathlib.Omega.{arith}

@@ -26,7 +26,7 @@ body-word-requires c κs =
     let a = c .before .before .args in
     let p = c .before .before .pre in
     let l = var-below (a .pack .now) (recordsOf (a .work .now) (a .c)) (p .0 .pack) (p .0 .reads) (a .r) (p .1) (a .k) (p .2) in
-    (p .0 .cataloged, omega arith, p .1, var-room (a .pack .now) (recordsOf (a .work .now) (a .c)) (p .0 .pack) (p .0 .reads) (a .r) (p .1) (a .k) l)
+    (p .0 .cataloged, omega arith, p .1, omega (arith, var-room (a .pack .now) (recordsOf (a .work .now) (a .c)) (p .0 .pack) (p .0 .reads) (a .r) (p .1) (a .k) l))
 
 returns : tie.Need-returns
 returns c =

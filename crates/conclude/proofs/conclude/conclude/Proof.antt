@@ -1,6 +1,5 @@
 -- `conclude` meets its contract.
 use borrow.Author.Needs.{needs}
-use Rattle.base.specs.Part.{part}
 use Rattle.conclude.specs.Concludes.{heldPack, conclude-spelt, conclude-asked, conclude-full, conclude-topping, concludes}
 use Rattle.conclude.proofs.conclude.conclude.Statement.{statement}
 use Rattle.conclude.proofs.conclude.conclude.Tie as tie

@@ -1,7 +1,6 @@
 -- `read_back` meets its contract.
 use borrow.Author.Needs.{needs}
 use mathlib.Core.Path.{_∙_}
-use native.Mathlib.Omega.{arith}
 use Rattle.conclude.specs.Top.{topping-room}
 use Rattle.conclude.specs.Back.{back-ready, back-full, back-asked, back-short, back-read}
 use Rattle.conclude.proofs.top.read_back.Statement.{statement}

@@ -1,6 +1,6 @@
 -- `kids` meets its contract.
 use native.Mathlib.Omega.{arith}
-use Rattle.fresh.specs.Writes.{kids-variable, kids-applied}
+use Rattle.copy.specs.Passes.{kids-variable, kids-applied}
 use Rattle.copy.proofs.walk.kids.Statement.{statement}
 use Rattle.copy.proofs.walk.kids.Tie as tie
 

@@ -22,23 +22,23 @@ argument-requires c κs =
 
 node-argument-requires : tie.Need-node-argument-requires Inv-loop μ-loop
 node-argument-requires c κs =
-    let Q = c .before .before .before .before .before .before .before .before .before .before .pre in
-    let K = c .before .before .before .before .before .before .loop .inv in
-    (pushing-readable _ _ _ _ _ _ _ _ _ _ Q _ _ _ K, pushing-ground _ _ _ _ _ _ _ _ _ _ Q _ _ _ K, pushing-beside _ _ _ _ _ _ _ _ _ _ Q _ _ _ K (c .before .before .before .before .before .loop-test .taken))
+    let Q = c .before .before .before .before .before .before .before .before .before .pre in
+    let K = c .before .before .before .before .before .loop .inv in
+    (pushing-readable _ _ _ _ _ _ _ _ _ _ Q _ _ _ K, pushing-ground _ _ _ _ _ _ _ _ _ _ Q _ _ _ K, pushing-beside _ _ _ _ _ _ _ _ _ _ Q _ _ _ K (c .before .before .before .before .loop-test .taken))
 
 put-pair-requires : tie.Need-put-pair-requires Inv-loop μ-loop
 put-pair-requires c κs =
-    let Q = c .before .before .before .before .before .before .before .before .before .before .before .before .pre in
-    let K = c .before .before .before .before .before .before .before .before .loop .inv in
-    (pushing-values _ _ _ _ _ _ _ _ _ _ Q _ _ _ K .placed, pushing-room _ _ _ _ _ _ _ _ _ _ Q _ _ _ K (c .before .before .before .before .before .before .before .loop-test .taken))
+    let Q = c .before .before .before .before .before .before .before .before .before .before .before .pre in
+    let K = c .before .before .before .before .before .before .before .loop .inv in
+    (pushing-values _ _ _ _ _ _ _ _ _ _ Q _ _ _ K .placed, pushing-room _ _ _ _ _ _ _ _ _ _ Q _ _ _ K (c .before .before .before .before .before .before .loop-test .taken))
 
 loop-again : tie.Need-loop-again Inv-loop μ-loop
 loop-again c =
-    let Q = c .before .before .before .before .before .before .before .before .before .before .before .before .before .before .before .pre in
-    let K = c .before .before .before .before .before .before .before .before .before .before .before .loop .inv in
-    let x = c .before .before .before .before .before .before .before .argument in
+    let Q = c .before .before .before .before .before .before .before .before .before .before .before .before .before .before .pre in
+    let K = c .before .before .before .before .before .before .before .before .before .before .loop .inv in
+    let x = c .before .before .before .before .before .before .argument in
     let m = c .before .before .before .before .node-argument in
-    pushing-more _ _ _ _ _ _ _ _ _ _ Q _ _ _ K (c .before .before .before .before .before .before .before .before .before .before .loop-test .taken) (x .result .0) (m .result) (x .ensures) (m .ensures) _ (c .before .before .put-pair .ensures)
+    pushing-more _ _ _ _ _ _ _ _ _ _ Q _ _ _ K (c .before .before .before .before .before .before .before .before .before .loop-test .taken) (x .result .0) (m .result .0) (x .ensures) (m .ensures) _ (c .before .before .put-pair .ensures)
 
 returns : tie.Need-returns Inv-loop μ-loop
 returns c =
@@ -59,11 +59,10 @@ push-arguments-spec =
     (λ c. let Q = c .before .before .before .before .before .before .pre in let K = c .before .before .loop .inv in let p = pushing-values _ _ _ _ _ _ _ _ _ _ Q _ _ _ K .placed in omega (arith, p .room, p .fits))
     (λ c. let Q = c .before .before .before .before .before .before .pre in let K = c .before .before .loop .inv in let p = pushing-values _ _ _ _ _ _ _ _ _ _ Q _ _ _ K .placed in omega (arith, p .room, p .fits))
     argument-requires
-    (λ c. search needs)
     node-argument-requires
     put-pair-requires
-    (λ c. let Q = c .before .before .before .before .before .before .before .before .before .before .before .before .before .before .before .pre in let K = c .before .before .before .before .before .before .before .before .before .before .before .loop .inv in let p = pushing-values _ _ _ _ _ _ _ _ _ _ Q _ _ _ K .placed in omega (arith, p .room, p .fits, pushing-room _ _ _ _ _ _ _ _ _ _ Q _ _ _ K (c .before .before .before .before .before .before .before .before .before .before .loop-test .taken)))
+    (λ c. search needs)
     (λ c. search needs)
     loop-again
-    (λ c. c .before .loop .inv .framed .long)
+    (λ c. search needs)
     returns)

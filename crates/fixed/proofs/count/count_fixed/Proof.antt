@@ -1,6 +1,5 @@
 -- `count_fixed` meets its contract.
 use borrow.Author.Needs.{needs}
-use mathlib.Core.Path.{_∙_}
 use native.Mathlib.Omega.{arith}
 use Rattle.fixed.specs.Whole.{numbers-room, cleared-asked, marked-in, counts-fixed}
 use Rattle.fixed.proofs.count.count_fixed.Statement.{statement}

@@ -2,7 +2,7 @@
 use borrow.Author.Needs.{needs}
 use Prim.Native.Nat.{_-_, _≤_}
 use native.Mathlib.Omega.{arith}
-use Rattle.fixed.specs.Marks.{Marks, marks-none, marks-there, next-inside, next-there, marks-on, marks-all}
+use Rattle.fixed.specs.Marks.{Marks, marks-none, marks-there, next-there, marks-on, marks-all}
 use Rattle.fixed.proofs.count.mark_numbered.Statement.{statement}
 use Rattle.fixed.proofs.count.mark_numbered.Tie as tie
 

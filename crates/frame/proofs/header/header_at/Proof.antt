@@ -1,46 +1,29 @@
--- `header_at` meets its contract: each test that fails makes the record bad, and they are all the tests there are.
+-- `header_at` meets its contract: the record is the first one of the tail.
 use borrow.Author.Needs.{needs}
 use native.Mathlib.Omega.{arith}
-use Rattle.frame.specs.Header.{cut-bad, short-bad, low-bad, high-bad, falls-bad, whole-good}
+use Rattle.frame.specs.Header.{heads-tail, heads-bad}
 use Rattle.frame.proofs.header.header_at.Statement.{statement}
 use Rattle.frame.proofs.header.header_at.Tie as tie
 
+add-t12 : tie.Need-add-t12
+add-t12 c = let s = c .before .before .before .before .before .before in omega (arith, heads-tail (s .args .pack .now) (s .args .at) (s .args .last) _ _ (s .pre) (rw (c .before .kind .given .1) at (c .before .before .before .first-header .ensures)) .2)
+
 returns : tie.Need-returns
-returns c = let a = c .before .before .args in cut-bad (a .pack .now) (a .at) (a .last) (omega arith)
+returns c = let s = c .before .before .before .before .before .before in heads-tail (s .args .pack .now) (s .args .at) (s .args .last) _ _ (s .pre) (rw (c .before .kind .given .1) at (c .before .before .before .first-header .ensures))
 
 returns-2 : tie.Need-returns-2
-returns-2 c = let a = c .before .before .before .before .args in short-bad (a .pack .now) (a .at) (a .last) (omega arith) (omega arith)
-
-returns-3 : tie.Need-returns-3
-returns-3 c = let a = c .before .before .before .before .before .before .args in low-bad (a .pack .now) (a .at) (a .last) (omega arith)
-
-returns-4 : tie.Need-returns-4
-returns-4 c = let a = c .before .before .before .before .before .before .before .args in high-bad (a .pack .now) (a .at) (a .last) (omega arith)
-
-returns-5 : tie.Need-returns-5
-returns-5 c = let a = c .before .before .before .before .before .before .before .before .args in falls-bad (a .pack .now) (a .at) (a .last) (omega arith)
-
-returns-6 : tie.Need-returns-6
-returns-6 c =
-    let a = c .before .before .before .before .before .before .before .before .args in
-    let g = whole-good (a .pack .now) (a .at) (a .last) (omega arith) (omega arith) (omega arith) (omega arith) in
-    (rw (c .before .before .before .u16-at .ensures .0, c .before .before .before .before .before .u32-at .ensures) g, omega arith, omega arith, omega arith)
+returns-2 c = let s = c .before .before .before .before .before in heads-bad (s .args .pack .now) (s .args .at) (s .args .last) (rw (c .enum-told .given .1) at (c .before .before .first-header .ensures))
 
 pub header-at-spec : {M : Type 1} → statement M
 header-at-spec =
     tie.close
     (tie.spec
     (λ c. search needs)
+    (λ c. search needs)
+    (λ c. search needs)
+    (λ c κs. search needs)
+    (λ c. search needs)
+    add-t12
+    (λ c. search needs)
     returns
-    (λ c. search needs)
-    (λ c κs. search needs)
-    (λ c. search needs)
-    (λ c. search needs)
-    returns-2
-    (λ c. search needs)
-    (λ c κs. search needs)
-    returns-3
-    returns-4
-    returns-5
-    (λ c. search needs)
-    returns-6)
+    returns-2)

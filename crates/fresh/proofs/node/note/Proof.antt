@@ -1,7 +1,8 @@
 -- `note` meets its contract.
 use borrow.Author.Needs.{needs}
-use Rattle.fresh.specs.Writes.{outside-none, note-set, note-none, notes-variable, notes-other}
+use Rattle.fresh.specs.Writes.{note-set, note-none, notes-variable, notes-other}
 use lib.ListN.{getD}
+use Rattle.base.specs.Outside.{outside-none}
 use mathlib.Core.Path.{refl}
 use native.Mathlib.Omega.{arith}
 use Rattle.fresh.proofs.node.note.Statement.{statement}

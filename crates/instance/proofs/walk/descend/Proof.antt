@@ -6,53 +6,52 @@ use Rattle.instance.proofs.walk.descend.Statement.{statement}
 use Rattle.instance.proofs.walk.descend.Tie as tie
 
 node-head-requires : tie.Need-node-head-requires
-node-head-requires c κs = let Q = c .before .before .before .before .before .pre .applied in (readable _ _ _ (Q .given .held), Q .ground)
+node-head-requires c κs = let Q = c .before .before .before .before .pre .applied in (readable _ _ _ (Q .given .held), Q .ground)
 
 returns : tie.Need-returns
 returns c =
-    let B = c .before .before .before .before .before .before .before .pre in
+    let B = c .before .before .before .before .before .before .pre in
     let d = c .before .node-head in
     descends-unlike _ _ _ _ _ _ _ _ _ _ _ _ B (d .result) (d .ensures) (c .if1 .taken)
 
 arity-requires : tie.Need-arity-requires
-arity-requires c κs = let Q = c .before .before .before .before .before .before .before .before .before .pre .applied in (Q .given .stored, Q .pattern)
+arity-requires c κs = let Q = c .before .before .before .before .before .before .before .before .pre .applied in (Q .given .stored, Q .pattern)
 
 node-arity-requires : tie.Need-node-arity-requires
-node-arity-requires c κs = let Q = c .before .before .before .before .before .before .before .before .before .before .before .before .pre .applied in (readable _ _ _ (Q .given .held), Q .ground)
+node-arity-requires c κs = let Q = c .before .before .before .before .before .before .before .before .before .before .pre .applied in (readable _ _ _ (Q .given .held), Q .ground)
 
 returns-2 : tie.Need-returns-2
 returns-2 c =
-    let B = c .before .before .before .before .before .before .before .before .before .before .before .before .before .before .pre in
-    let d = c .before .before .before .before .before .before .before .before .node-head in
-    let k = c .before .before .before .before .arity in
+    let B = c .before .before .before .before .before .before .before .before .before .before .before .before .pre in
+    let d = c .before .before .before .before .before .before .before .node-head in
+    let k = c .before .before .before .arity in
     let m = c .before .node-arity in
-    descends-longer _ _ _ _ _ _ _ _ _ _ _ _ B (d .result) (d .ensures) (c .before .before .before .before .before .before .before .if1 .left) (k .result) (k .ensures) (m .result) (m .ensures) (c .if2 .taken)
+    descends-longer _ _ _ _ _ _ _ _ _ _ _ _ B (d .result) (d .ensures) (c .before .before .before .before .before .before .if1 .left) (k .result) (k .ensures) (m .result) (m .ensures) (c .if2 .taken)
 
 put-requires : tie.Need-put-requires
-put-requires c κs = seen-placed _ _ _ _ _ _ _ _ _ _ _ _ (c .before .before .before .before .before .before .before .before .before .before .before .before .before .before .before .before .pre .applied)
+put-requires c κs = seen-placed _ _ _ _ _ _ _ _ _ _ _ _ (c .before .before .before .before .before .before .before .before .before .before .before .before .before .before .pre .applied)
 
 push-arguments-requires : tie.Need-push-arguments-requires
 push-arguments-requires c κs =
-    let B = c .before .before .before .before .before .before .before .before .before .before .before .before .before .before .before .before .before .before .before .before .pre in
-    let d = c .before .before .before .before .before .before .before .before .before .before .before .before .before .before .node-head in
-    let k = c .before .before .before .before .before .before .before .before .before .before .arity in
+    let B = c .before .before .before .before .before .before .before .before .before .before .before .before .before .before .before .before .before .before .pre in
+    let d = c .before .before .before .before .before .before .before .before .before .before .before .before .before .node-head in
+    let k = c .before .before .before .before .before .before .before .before .before .arity in
     let m = c .before .before .before .before .before .before .before .node-arity in
-    descends-pushable _ _ _ _ _ _ _ _ _ _ _ _ B (d .result) (d .ensures) (c .before .before .before .before .before .before .before .before .before .before .before .before .before .if1 .left) (k .result) (k .ensures) (m .result) (m .ensures) (c .before .before .before .before .before .before .if2 .left) _ (c .before .before .before .put .ensures)
+    descends-pushable _ _ _ _ _ _ _ _ _ _ _ _ B (d .result) (d .ensures) (c .before .before .before .before .before .before .before .before .before .before .before .before .if1 .left) (k .result) (k .ensures) (m .result) (m .ensures) (c .before .before .before .before .before .before .if2 .left) _ (c .before .before .before .put .ensures)
 
 returns-3 : tie.Need-returns-3
 returns-3 c =
-    let B = c .before .before .before .before .before .before .before .before .before .before .before .before .before .before .before .before .before .before .before .before .before .before .before .pre in
-    let d = c .before .before .before .before .before .before .before .before .before .before .before .before .before .before .before .before .before .node-head in
-    let k = c .before .before .before .before .before .before .before .before .before .before .before .before .before .arity in
+    let B = c .before .before .before .before .before .before .before .before .before .before .before .before .before .before .before .before .before .before .before .before .before .pre in
+    let d = c .before .before .before .before .before .before .before .before .before .before .before .before .before .before .before .before .node-head in
+    let k = c .before .before .before .before .before .before .before .before .before .before .before .before .arity in
     let m = c .before .before .before .before .before .before .before .before .before .before .node-arity in
     let on = c .before .before .push-arguments in
-    descends-on _ _ _ _ _ _ _ _ _ _ _ _ B (d .result) (d .ensures) (c .before .before .before .before .before .before .before .before .before .before .before .before .before .before .before .before .if1 .left) (k .result) (k .ensures) (m .result) (m .ensures) (c .before .before .before .before .before .before .before .before .before .if2 .left) _ (c .before .before .before .before .before .before .put .ensures) _ (on .result) (on .ensures)
+    descends-on _ _ _ _ _ _ _ _ _ _ _ _ B (d .result) (d .ensures) (c .before .before .before .before .before .before .before .before .before .before .before .before .before .before .before .if1 .left) (k .result) (k .ensures) (m .result) (m .ensures) (c .before .before .before .before .before .before .before .before .before .if2 .left) _ (c .before .before .before .before .before .before .put .ensures) _ (on .result) (on .ensures)
 
 pub descend-spec : {M : Type 1} → statement M
 descend-spec =
     tie.close
     (tie.spec
-    (λ c. search needs)
     node-head-requires
     (λ c. search needs)
     returns
@@ -61,7 +60,6 @@ descend-spec =
     (λ c. search needs)
     (λ c. search needs)
     arity-requires
-    (λ c. search needs)
     node-arity-requires
     (λ c. search needs)
     returns-2

@@ -28,29 +28,29 @@ argument-requires c κs =
 
 node-argument-requires : tie.Need-node-argument-requires Inv-loop μ-loop
 node-argument-requires c κs =
-    let Q = c .before .before .before .before .before .before .before .before .before .before .pre in
-    let K = c .before .before .before .before .before .before .loop .inv in
-    (pushing-readable _ _ _ _ _ _ _ _ _ _ Q _ _ _ K, pushing-ground _ _ _ _ _ _ _ _ _ _ Q _ _ _ K, pushing-beside _ _ _ _ _ _ _ _ _ _ Q _ _ _ K (c .before .before .before .before .before .loop-test .taken))
+    let Q = c .before .before .before .before .before .before .before .before .before .pre in
+    let K = c .before .before .before .before .before .loop .inv in
+    (pushing-readable _ _ _ _ _ _ _ _ _ _ Q _ _ _ K, pushing-ground _ _ _ _ _ _ _ _ _ _ Q _ _ _ K, pushing-beside _ _ _ _ _ _ _ _ _ _ Q _ _ _ K (c .before .before .before .before .loop-test .taken))
 
 put-pair-requires : tie.Need-put-pair-requires Inv-loop μ-loop
 put-pair-requires c κs =
-    let Q = c .before .before .before .before .before .before .before .before .before .before .before .before .pre in
-    let K = c .before .before .before .before .before .before .before .before .loop .inv in
-    pushing-room _ _ _ _ _ _ _ _ _ _ Q _ _ _ K (c .before .before .before .before .before .before .before .loop-test .taken)
+    let Q = c .before .before .before .before .before .before .before .before .before .before .before .pre in
+    let K = c .before .before .before .before .before .before .before .loop .inv in
+    pushing-room _ _ _ _ _ _ _ _ _ _ Q _ _ _ K (c .before .before .before .before .before .before .loop-test .taken)
 
 add-on : tie.Need-add-on Inv-loop μ-loop
 add-on c =
-    let Q = c .before .before .before .before .before .before .before .before .before .before .before .before .before .before .before .pre in
-    let K = c .before .before .before .before .before .before .before .before .before .before .before .loop .inv in
-    omega (arith, pushing-room _ _ _ _ _ _ _ _ _ _ Q _ _ _ K (c .before .before .before .before .before .before .before .before .before .before .loop-test .taken), Q .fits, Q .room, K .count)
+    let Q = c .before .before .before .before .before .before .before .before .before .before .before .before .before .before .pre in
+    let K = c .before .before .before .before .before .before .before .before .before .before .loop .inv in
+    omega (arith, pushing-room _ _ _ _ _ _ _ _ _ _ Q _ _ _ K (c .before .before .before .before .before .before .before .before .before .loop-test .taken), Q .fits, Q .room, K .count)
 
 loop-again : tie.Need-loop-again Inv-loop μ-loop
 loop-again c =
-    let Q = c .before .before .before .before .before .before .before .before .before .before .before .before .before .before .before .pre in
-    let K = c .before .before .before .before .before .before .before .before .before .before .before .loop .inv in
-    let x = c .before .before .before .before .before .before .before .argument in
+    let Q = c .before .before .before .before .before .before .before .before .before .before .before .before .before .before .pre in
+    let K = c .before .before .before .before .before .before .before .before .before .before .loop .inv in
+    let x = c .before .before .before .before .before .before .argument in
     let m = c .before .before .before .before .node-argument in
-    pushing-more _ _ _ _ _ _ _ _ _ _ Q _ _ _ K (c .before .before .before .before .before .before .before .before .before .before .loop-test .taken) (x .result) (m .result) (x .ensures) (m .ensures) _ (c .before .before .put-pair .ensures)
+    pushing-more _ _ _ _ _ _ _ _ _ _ Q _ _ _ K (c .before .before .before .before .before .before .before .before .before .loop-test .taken) (x .result) (m .result .0) (x .ensures) (m .ensures) _ (c .before .before .put-pair .ensures)
 
 returns : tie.Need-returns Inv-loop μ-loop
 returns c =
@@ -71,11 +71,10 @@ push-arguments-spec =
     part-argument-start
     part-argument-end
     argument-requires
-    (λ c. search needs)
     node-argument-requires
     put-pair-requires
     add-on
     (λ c. search needs)
     loop-again
-    (λ c. c .before .loop .inv .outside .long)
+    (λ c. search needs)
     returns)

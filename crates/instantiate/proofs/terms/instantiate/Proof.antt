@@ -1,9 +1,8 @@
 -- `instantiate` meets its contract: with each word the terms from there on stand in the graph.
 use borrow.Author.Needs.{needs}
-use mathlib.Core.Path.{_≡_, refl, _∙_}
+use mathlib.Core.Path.{refl, _∙_}
 use Prim.Native.Nat.{_-_}
 use native.Mathlib.Omega.{arith}
-use Rattle.instantiate.specs.Building.{Asked}
 use Rattle.instantiate.specs.Going.{Going, going-first, going-taking, going-on, going-full, going-top, going-done}
 use Rattle.instantiate.proofs.terms.instantiate.Statement.{statement}
 use Rattle.instantiate.proofs.terms.instantiate.Tie as tie

@@ -1,15 +1,12 @@
 -- `take_word` meets its contract.
 use borrow.Author.Needs.{needs}
-use mathlib.Core.Path.{_≡_, _∙_}
-use Prim.Native.Nat.{_+_, _<_}
 use native.Mathlib.Omega.{arith}
-use lib.ListN.{length, length-set}
-use Rattle.definition.specs.Pack.{ruleOf}
+use Rattle.base.specs.Outside.{outside-none}
 use Rattle.base.specs.Part.{part}
-use Rattle.pack.specs.Reads.{ruleWords, length-symbols}
+use Rattle.pack.specs.Reads.{length-symbols}
 use Rattle.pack.specs.Held.{readable}
-use Rattle.instantiate.specs.Building.{Taking, outside-none, asked-word}
-use Rattle.instantiate.specs.Turns.{lent-long, lent-outside, symbol-there, variable-room, built-variable, symbol-room, built-symbol, full-symbol}
+use Rattle.instantiate.specs.Building.{asked-word}
+use Rattle.instantiate.specs.Turns.{lent-outside, symbol-there, variable-room, built-variable, symbol-room, built-symbol, full-symbol}
 use Rattle.instantiate.proofs.terms.take_word.Statement.{statement}
 use Rattle.instantiate.proofs.terms.take_word.Tie as tie
 

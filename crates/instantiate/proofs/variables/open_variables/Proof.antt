@@ -1,13 +1,10 @@
 -- `open_variables` meets its contract: with each turn one variable more is there.
 use borrow.Author.Needs.{needs}
-use mathlib.Core.Path.{_≡_, refl, _∙_}
 use Prim.Native.Nat.{_-_}
 use native.Mathlib.Omega.{arith}
 use Rattle.base.specs.Part.{part}
 use Rattle.pack.specs.Held.{readable}
-use Rattle.instantiate.specs.declared.terms.Place.{Place}
-use Rattle.instantiate.specs.Turns.{lent-long}
-use Rattle.instantiate.specs.Variables.{First, table-long, first-none, first-held, first-reads, first-room, first-more, first-full, first-all, none-held, none-room, none-shows, opens-on, opens-full}
+use Rattle.instantiate.specs.Variables.{First, table-long, first-none, first-held, first-reads, first-more, first-full, first-all, none-held, none-room, none-shows, opens-on, opens-full}
 use Rattle.instantiate.proofs.variables.open_variables.Statement.{statement}
 use Rattle.instantiate.proofs.variables.open_variables.Tie as tie
 

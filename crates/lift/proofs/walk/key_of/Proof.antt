@@ -9,7 +9,7 @@ use Rattle.lift.proofs.walk.key_of.Statement.{statement}
 use Rattle.lift.proofs.walk.key_of.Tie as tie
 
 abbrev Inv-loop : tie.InvT-loop
-Inv-loop pack work c n key₀ at k i₀ key i = Keying pack work c at n k i key
+Inv-loop pack work c n key₀ at k i₀ key i = Keying pack work c at (n .0) k i key
 
 abbrev μ-loop : tie.MeasureT-loop
 μ-loop pack work c n key₀ at k i₀ key i = k - i
@@ -27,22 +27,22 @@ node-argument-requires : tie.Need-node-argument-requires Inv-loop μ-loop
 node-argument-requires c κs = let R = c .before .before .before .before .before .before .before .pre .0 in (readable _ _ _ (R .held), ripe-recorded _ _ _ _ _ R, keying-left _ _ _ _ _ R _ _ _ (c .before .loop .inv) (c .loop-test .taken))
 
 add-key : tie.Need-add-key Inv-loop μ-loop
-add-key c = let R = c .before .before .before .before .before .before .before .before .pre .0 in let g = keying-given _ _ _ _ _ R _ _ _ (c .before .before .loop .inv) (c .before .loop-test .taken) (c .node-argument .result) (c .node-argument .ensures) in omega (arith, R .inside)
+add-key c = let R = c .before .before .before .before .before .before .before .before .before .pre .0 in let g = keying-given _ _ _ _ _ R _ _ _ (c .before .before .before .loop .inv) (c .before .before .loop-test .taken) (c .before .node-argument .result .0) (c .before .node-argument .ensures) in omega (arith, R .inside)
 
 mul-key : tie.Need-mul-key Inv-loop μ-loop
-mul-key c = let R = c .before .before .before .before .before .before .before .before .pre .0 in let g = keying-given _ _ _ _ _ R _ _ _ (c .before .before .loop .inv) (c .before .loop-test .taken) (c .node-argument .result) (c .node-argument .ensures) in omega (arith, R .inside)
+mul-key c = let R = c .before .before .before .before .before .before .before .before .before .pre .0 in let g = keying-given _ _ _ _ _ R _ _ _ (c .before .before .before .loop .inv) (c .before .before .loop-test .taken) (c .before .node-argument .result .0) (c .before .node-argument .ensures) in omega (arith, R .inside)
 
 shared-slice-read-key : tie.Need-shared-slice-read-key Inv-loop μ-loop
-shared-slice-read-key c = let R = c .before .before .before .before .before .before .before .before .before .pre .0 in let g = keying-given _ _ _ _ _ R _ _ _ (c .before .before .before .loop .inv) (c .before .before .loop-test .taken) (c .before .node-argument .result) (c .before .node-argument .ensures) in omega (arith, R .inside)
+shared-slice-read-key c = let R = c .before .before .before .before .before .before .before .before .before .before .pre .0 in let g = keying-given _ _ _ _ _ R _ _ _ (c .before .before .before .before .loop .inv) (c .before .before .before .loop-test .taken) (c .before .before .node-argument .result .0) (c .before .before .node-argument .ensures) in omega (arith, R .inside)
 
 sub-key : tie.Need-sub-key Inv-loop μ-loop
-sub-key c = keying-lifted _ _ _ _ _ (c .before .before .before .before .before .before .before .before .before .pre .0) _ _ _ (c .before .before .before .loop .inv) (c .before .before .loop-test .taken) (c .before .node-argument .result) (c .before .node-argument .ensures)
+sub-key c = keying-lifted _ _ _ _ _ (c .before .before .before .before .before .before .before .before .before .before .pre .0) _ _ _ (c .before .before .before .before .loop .inv) (c .before .before .before .loop-test .taken) (c .before .before .node-argument .result .0) (c .before .before .node-argument .ensures)
 
 slice-write-key-2 : tie.Need-slice-write-key-2 Inv-loop μ-loop
-slice-write-key-2 c = let K = c .before .before .before .loop .inv in omega (arith, K .long, K .most, c .before .before .loop-test .taken)
+slice-write-key-2 c = let K = c .before .before .before .before .loop .inv in omega (arith, K .long, K .most, c .before .before .before .loop-test .taken)
 
 loop-again : tie.Need-loop-again Inv-loop μ-loop
-loop-again c = keying-more _ _ _ _ _ (c .before .before .before .before .before .before .before .before .before .pre .0) _ _ _ (c .before .before .before .loop .inv) (c .before .before .loop-test .taken) (c .before .node-argument .result) (c .before .node-argument .ensures)
+loop-again c = keying-more _ _ _ _ _ (c .before .before .before .before .before .before .before .before .before .before .pre .0) _ _ _ (c .before .before .before .before .loop .inv) (c .before .before .before .loop-test .taken) (c .before .before .node-argument .result .0) (c .before .before .node-argument .ensures)
 
 same-length : tie.Need-same-length Inv-loop μ-loop
 same-length c = c .before .loop .inv .long ∙ sym (c .before .before .before .before .before .before .before .pre .1)

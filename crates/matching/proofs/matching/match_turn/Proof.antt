@@ -91,11 +91,9 @@ match-turn-spec =
     (λ c. search needs)
     (λ c. search needs)
     returns-2
-    (λ c. search needs)
     node-head-requires
     (λ c. search needs)
     returns-3
-    (λ c. search needs)
     push-arguments-requires
     (λ c. search needs)
     (λ c. search needs)

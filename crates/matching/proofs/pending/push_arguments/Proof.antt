@@ -6,7 +6,7 @@ use Rattle.matching.proofs.pending.push_arguments.Statement.{statement}
 use Rattle.matching.proofs.pending.push_arguments.Tie as tie
 
 abbrev Inv-loop : tie.InvT-loop
-Inv-loop pack work c stack₀ n on₀ i₀ stack on i = ArgumentsFrom pack work c n i stack₀ on₀ stack on
+Inv-loop pack work c stack₀ n on₀ i₀ stack on i = ArgumentsFrom pack work c (n .0) i stack₀ on₀ stack on
 
 abbrev μ-loop : tie.MeasureT-loop
 μ-loop pack work c stack₀ n on₀ i₀ stack on i = i
@@ -26,7 +26,7 @@ push-requires : tie.Need-push-requires Inv-loop μ-loop
 push-requires c κs = let p = c .before .before .before .before .before .before .before .before .pre in arguments-room _ _ _ _ _ _ _ _ _ (c .before .before .before .loop .inv) (p .0) (p .3) (c .before .before .loop-test .taken)
 
 loop-again : tie.Need-loop-again Inv-loop μ-loop
-loop-again c = arguments-more _ _ _ _ _ _ _ _ _ (c .before .before .before .before .before .before .loop .inv) (c .before .before .before .before .before .loop-test .taken) (c .before .before .before .node-argument .result) (c .before .before .before .node-argument .ensures) (c .before .before .push .last .1 .0) (c .before .before .push .result) (c .before .before .push .kept .1 .0) (c .before .before .push .ensures .0)
+loop-again c = arguments-more _ _ _ _ _ _ _ _ _ (c .before .before .before .before .before .before .loop .inv) (c .before .before .before .before .before .loop-test .taken) (c .before .before .before .node-argument .result .0) (c .before .before .before .node-argument .ensures) (c .before .before .push .last .1 .0) (c .before .before .push .result) (c .before .before .push .kept .1 .0) (c .before .before .push .ensures .0)
 
 returns : tie.Need-returns Inv-loop μ-loop
 returns c = arguments-all _ _ _ _ _ _ _ _ _ (c .before .loop .inv) (c .loop-test .left)

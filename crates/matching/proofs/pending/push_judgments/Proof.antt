@@ -19,7 +19,7 @@ step-refs-requires : tie.Need-step-refs-requires Inv-loop μ-loop
 step-refs-requires c κs = let p = c .before .before .before .before .before .before .before .before .pre in (readable _ _ _ (p .0), step-recorded _ _ _ (p .0) _ (p .1))
 
 loop-holds : tie.Need-loop-holds Inv-loop μ-loop
-loop-holds c = judgments-own _ _ _ _ _ _ (c .before .before .before .before .step-judgment .result) (c .before .before .before .before .step-judgment .ensures) (c .step-refs .ensures) _ (c .before .before .before .push .result) (c .before .before .before .push .ensures .0)
+loop-holds c = judgments-own _ _ _ _ _ _ (c .before .before .before .before .step-judgment .result .0) (c .before .before .before .before .step-judgment .ensures) (c .step-refs .ensures) _ (c .before .before .before .push .result) (c .before .before .before .push .ensures .0)
 
 step-ref-requires : tie.Need-step-ref-requires Inv-loop μ-loop
 step-ref-requires c κs =
@@ -36,7 +36,7 @@ push-requires-2 c κs = let p = c .before .before .before .before .before .befor
 
 loop-again : tie.Need-loop-again Inv-loop μ-loop
 loop-again c =
-    judgments-more _ _ _ _ _ _ _ _ (c .before .before .before .before .before .before .before .loop .inv) (c .before .before .before .before .before .before .loop-test .taken) (c .before .before .before .before .before .step-ref .result) (c .before .before .before .step-judgment2 .result) (c .before .before .before .before .before .step-ref .ensures) (c .before .before .before .step-judgment2 .ensures)
+    judgments-more _ _ _ _ _ _ _ _ (c .before .before .before .before .before .before .before .loop .inv) (c .before .before .before .before .before .before .loop-test .taken) (c .before .before .before .before .before .step-ref .result) (c .before .before .before .step-judgment2 .result .0) (c .before .before .before .before .before .step-ref .ensures) (c .before .before .before .step-judgment2 .ensures)
     (c .before .before .push2 .last .1 .0) (c .before .before .push2 .result) (c .before .before .push2 .kept .1 .0) (c .before .before .push2 .ensures .0)
 
 returns : tie.Need-returns Inv-loop μ-loop

@@ -3,7 +3,7 @@ use borrow.Author.Needs.{needs}
 use Prim.Native.Nat.{_-_}
 use native.Mathlib.Omega.{arith}
 use lib.ListN.{length-set}
-use mathlib.Core.Path.{refl, sym, subst, _∙_}
+use mathlib.Core.Path.{refl, sym, subst}
 use Rattle.graph.specs.Cells.{laid-rows}
 use Rattle.meet.specs.Pairs.{Piled, PairsOn, pile-none, pile-left, pile-right, pile-more, pile-all, pile-empty, pile-topmost}
 use Rattle.meet.proofs.pairs.push_pairs.Statement.{statement}
@@ -43,13 +43,13 @@ argument-requires : tie.Need-argument-requires Inv-loop μ-loop
 argument-requires c κs =
     let p = c .before .before .before .before .before .before .before .before .before .before .pre in
     let P = c .before .before .loop .inv in
-    (laid-rows _ _ _ _ (P .rows) (p .0 .1 .laid), p .1, pile-left _ _ _ _ _ (c .before .before .before .before .before .before .arity .result) (c .before .before .before .before .arity2 .result) _ (c .before .before .before .before .before .before .arity .ensures) (c .before .before .before .before .arity2 .ensures) (c .before .before .before .least .ensures) _ _ _ _ _ P (p .0) (p .1) (c .before .loop-test .taken))
+    (laid-rows _ _ _ _ (P .rows) (p .0 .1 .laid), p .1, pile-left _ _ _ _ _ (c .before .before .before .before .before .before .arity .result) (c .before .before .before .before .arity2 .result) _ (c .before .before .before .before .before .before .arity .ensures) (c .before .before .before .before .arity2 .ensures) (c .before .before .before .least .ensures) _ _ _ _ _ P (p .0) (p .1) _ (omega (arith, c .before .loop-test .taken)))
 
 argument-requires-2 : tie.Need-argument-requires-2 Inv-loop μ-loop
 argument-requires-2 c κs =
     let p = c .before .before .before .before .before .before .before .before .before .before .before .before .pre in
     let P = c .before .before .before .before .loop .inv in
-    (laid-rows _ _ _ _ (P .rows) (p .0 .1 .laid), p .2, pile-right _ _ _ _ _ (c .before .before .before .before .before .before .before .before .arity .result) (c .before .before .before .before .before .before .arity2 .result) _ (c .before .before .before .before .before .before .before .before .arity .ensures) (c .before .before .before .before .before .before .arity2 .ensures) (c .before .before .before .before .before .least .ensures) _ _ _ _ _ P (p .0) (p .2) (c .before .before .before .loop-test .taken))
+    (laid-rows _ _ _ _ (P .rows) (p .0 .1 .laid), p .2, pile-right _ _ _ _ _ (c .before .before .before .before .before .before .before .before .arity .result) (c .before .before .before .before .before .before .arity2 .result) _ (c .before .before .before .before .before .before .before .before .arity .ensures) (c .before .before .before .before .before .before .arity2 .ensures) (c .before .before .before .before .before .least .ensures) _ _ _ _ _ P (p .0) (p .2) _ (omega (arith, c .before .before .before .loop-test .taken)))
 
 mul-table : tie.Need-mul-table Inv-loop μ-loop
 mul-table c = omega (arith, c .before .before .before .before .before .loop .inv .fits, c .before .before .before .before .loop-test .taken, c .before .before .before .before .before .before .before .before .before .before .before .before .before .pre .0 .1 .laid .small, c .before .before .before .before .before .loop .inv .few)

@@ -1,10 +1,8 @@
 -- `top_pair` meets its contract.
 use borrow.Author.Needs.{needs}
 use mathlib.Core.Path.{_≡_, refl, sym, ap}
-use mathlib.Core.List.{List}
-use Prim.Native.Nat.{ℕ, _+_, _*_, _-_}
+use Prim.Native.Nat.{_-_}
 use native.Mathlib.Omega.{arith}
-use lib.ListN.{length, getD}
 use Rattle.graph.specs.Stack.{leftWord, rightWord}
 use Rattle.meet.proofs.pairs.top_pair.Statement.{statement}
 use Rattle.meet.proofs.pairs.top_pair.Tie as tie

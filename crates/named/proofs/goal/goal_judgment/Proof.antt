@@ -18,4 +18,6 @@ returns c =
     λ P R. c .body-word .ensures ∙ goal-read (a .pack .now) (recordsOf (a .work .now) (a .c)) P R (a .i) (s .pre .1)
 
 pub goal-judgment-spec : {M : Type 1} → statement M
-goal-judgment-spec = tie.close (tie.spec body-word-requires returns)
+goal-judgment-spec = tie.close (tie.spec
+    body-word-requires
+    returns)

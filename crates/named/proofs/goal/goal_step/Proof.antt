@@ -25,15 +25,15 @@ goal-judgment-requires c κs = let p = c .before .before .before .before .before
 
 returns : tie.Need-returns
 returns c =
-    let p = c .before .before .before .before .before .before .before .before .before .before .pre in
-    let a = c .before .before .before .before .before .before .before .before .before .before .args in
-    step-same _ _ _ (p .0) (a .g) _ (rw (c .before .before .before .before .before .i .given .1) at (c .before .before .before .before .before .before .before .goal-result .ensures)) _ (c .before .before .before .result-step .ensures) _ _ (c .before .before .step-judgment .ensures) (c .before .goal-judgment .ensures) (c .if1 .taken)
+    let p = c .before .before .before .before .before .before .before .before .before .before .before .before .pre in
+    let a = c .before .before .before .before .before .before .before .before .before .before .before .before .args in
+    step-same _ _ _ (p .0) (a .g) _ (rw (c .before .before .before .before .before .before .before .i .given .1) at (c .before .before .before .before .before .before .before .before .before .goal-result .ensures)) _ (c .before .before .before .before .before .result-step .ensures) _ _ (c .before .before .before .before .step-judgment .ensures) (c .before .before .before .goal-judgment .ensures) (c .if1 .taken)
 
 returns-2 : tie.Need-returns-2
 returns-2 c =
-    let p = c .before .before .before .before .before .before .before .before .before .before .pre in
-    let a = c .before .before .before .before .before .before .before .before .before .before .args in
-    step-other _ _ _ (p .0) (a .g) _ (rw (c .before .before .before .before .before .i .given .1) at (c .before .before .before .before .before .before .before .goal-result .ensures)) _ (c .before .before .before .result-step .ensures) _ _ (c .before .before .step-judgment .ensures) (c .before .goal-judgment .ensures) (c .if1 .left)
+    let p = c .before .before .before .before .before .before .before .before .before .before .before .before .pre in
+    let a = c .before .before .before .before .before .before .before .before .before .before .before .before .args in
+    step-other _ _ _ (p .0) (a .g) _ (rw (c .before .before .before .before .before .before .before .i .given .1) at (c .before .before .before .before .before .before .before .before .before .goal-result .ensures)) _ (c .before .before .before .before .before .result-step .ensures) _ _ (c .before .before .before .before .step-judgment .ensures) (c .before .before .before .goal-judgment .ensures) (c .if1 .left)
 
 returns-3 : tie.Need-returns-3
 returns-3 c = let a = c .before .before .before .before .before .args in step-none _ _ _ (a .g) (rw (c .enum-told .given .1) at (c .before .before .goal-result .ensures))

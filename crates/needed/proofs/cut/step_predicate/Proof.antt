@@ -20,4 +20,7 @@ unfolding predicateOf
 returns c = λ P R Q. c .node-head .ensures P R ∙ ap (λ (n : ℕ). nodeOf P n .head) (c .before .step-judgment .ensures P R)
 
 pub step-predicate-spec : {M : Type 1} → statement M
-step-predicate-spec = tie.close (tie.spec step-judgment-requires (λ c. search needs) node-head-requires returns)
+step-predicate-spec = tie.close (tie.spec
+    step-judgment-requires
+    node-head-requires
+    returns)

@@ -23,19 +23,19 @@ step-judgment-requires : tie.Need-step-judgment-requires Inv-loop μ-loop
 step-judgment-requires c κs = let q = noting-placed _ _ _ _ (c .before .before .before .before .before .before .before .pre) _ _ (c .before .before .loop .inv) in (readable _ _ _ (q .held), noting-left _ _ _ _ (c .before .before .before .before .before .before .before .pre) _ _ (c .before .before .loop .inv) _ (omega (arith, c .before .loop-test .taken)))
 
 cast-work : tie.Need-cast-work Inv-loop μ-loop
-cast-work c = omega (arith, noting-small _ _ _ _ (c .before .before .before .before .before .before .before .before .pre) _ _ (c .before .before .before .loop .inv) (c .before .before .before .loop .s - 1) (omega (arith, c .before .before .loop-test .taken)) _ (c .step-judgment .ensures))
+cast-work c = omega (arith, noting-small _ _ _ _ (c .before .before .before .before .before .before .before .before .before .pre) _ _ (c .before .before .before .before .loop .inv) (c .before .before .before .before .loop .s - 1) (omega (arith, c .before .before .before .loop-test .taken)) _ (c .before .step-judgment .ensures))
 
 add-work : tie.Need-add-work Inv-loop μ-loop
-add-work c = omega (arith, noting-room _ _ _ _ (c .before .before .before .before .before .before .before .before .pre) _ _ (c .before .before .before .loop .inv) (c .before .before .before .loop .s - 1) (omega (arith, c .before .before .loop-test .taken)) _ (c .step-judgment .ensures))
+add-work c = omega (arith, noting-room _ _ _ _ (c .before .before .before .before .before .before .before .before .before .pre) _ _ (c .before .before .before .before .loop .inv) (c .before .before .before .before .loop .s - 1) (omega (arith, c .before .before .before .loop-test .taken)) _ (c .before .step-judgment .ensures))
 
 mul-work : tie.Need-mul-work Inv-loop μ-loop
-mul-work c = omega (arith, noting-room _ _ _ _ (c .before .before .before .before .before .before .before .before .pre) _ _ (c .before .before .before .loop .inv) (c .before .before .before .loop .s - 1) (omega (arith, c .before .before .loop-test .taken)) _ (c .step-judgment .ensures))
+mul-work c = omega (arith, noting-room _ _ _ _ (c .before .before .before .before .before .before .before .before .before .pre) _ _ (c .before .before .before .before .loop .inv) (c .before .before .before .before .loop .s - 1) (omega (arith, c .before .before .before .loop-test .taken)) _ (c .before .step-judgment .ensures))
 
 slice-write-work : tie.Need-slice-write-work Inv-loop μ-loop
-slice-write-work c = noting-room _ _ _ _ (c .before .before .before .before .before .before .before .before .pre) _ _ (c .before .before .before .loop .inv) (c .before .before .before .loop .s - 1) (omega (arith, c .before .before .loop-test .taken)) _ (c .step-judgment .ensures)
+slice-write-work c = noting-room _ _ _ _ (c .before .before .before .before .before .before .before .before .before .pre) _ _ (c .before .before .before .before .loop .inv) (c .before .before .before .before .loop .s - 1) (omega (arith, c .before .before .before .loop-test .taken)) _ (c .before .step-judgment .ensures)
 
 loop-again : tie.Need-loop-again Inv-loop μ-loop
-loop-again c = noting-more _ _ _ _ (c .before .before .before .before .before .before .before .before .pre) _ _ (c .before .before .before .loop .inv) (c .before .before .before .loop .s - 1) (omega (arith, c .before .before .loop-test .taken)) _ (c .step-judgment .ensures)
+loop-again c = noting-more _ _ _ _ (c .before .before .before .before .before .before .before .before .before .pre) _ _ (c .before .before .before .before .loop .inv) (c .before .before .before .before .loop .s - 1) (omega (arith, c .before .before .before .loop-test .taken)) _ (c .before .step-judgment .ensures)
 
 same-length : tie.Need-same-length Inv-loop μ-loop
 same-length c = c .before .loop .inv .outside .long

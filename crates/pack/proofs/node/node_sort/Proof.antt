@@ -20,4 +20,8 @@ unfolding sortOf
 returns c = λ P R. c .symbol-output .ensures P R ∙ ap (λ (h : ℕ). symbolOf P h .output) (c .before .node-head .ensures P R)
 
 pub node-sort-spec : {M : Type 1} → statement M
-node-sort-spec = tie.close (tie.spec (λ c κs. search needs) (λ c. search needs) symbol-output-requires returns)
+node-sort-spec = tie.close (tie.spec
+    (λ c κs. search needs)
+    (λ c. search needs)
+    symbol-output-requires
+    returns)

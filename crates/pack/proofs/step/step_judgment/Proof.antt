@@ -18,4 +18,6 @@ returns c =
     λ P R. c .body-word .ensures ∙ judgment-read (a .pack .now) (recordsOf (a .work .now) (a .c)) P R (a .s) (s .pre .1)
 
 pub step-judgment-spec : {M : Type 1} → statement M
-step-judgment-spec = tie.close (tie.spec body-word-requires returns)
+step-judgment-spec = tie.close (tie.spec
+    body-word-requires
+    returns)

@@ -26,7 +26,7 @@ body-word-requires c κs =
     let a = c .before .before .args in
     let p = c .before .before .pre in
     let l = ref-below (a .pack .now) (recordsOf (a .work .now) (a .c)) (p .0 .pack) (p .0 .reads) (a .s) (p .1) (a .i) (p .2) in
-    (p .0 .cataloged, omega arith, p .1, ref-room (a .pack .now) (recordsOf (a .work .now) (a .c)) (p .0 .pack) (p .0 .reads) (a .s) (p .1) (a .i) l)
+    (p .0 .cataloged, omega arith, p .1, omega (arith, ref-room (a .pack .now) (recordsOf (a .work .now) (a .c)) (p .0 .pack) (p .0 .reads) (a .s) (p .1) (a .i) l))
 
 returns : tie.Need-returns
 returns c =

@@ -3,7 +3,7 @@ use borrow.Author.Needs.{needs}
 use mathlib.Core.Path.{sym, subst}
 use mathlib.Core.List.{List}
 use Prim.Native.Nat.{ℕ}
-use Rattle.fresh.specs.Held.{Given, Copies}
+use Rattle.copy.specs.Held.{Given, Copies}
 use Rattle.premise.specs.Layout.{copyingOf}
 use Rattle.premise.specs.Takes.{conclusionIn, flex-lent, copying-given}
 use Rattle.premise.proofs.premise.copy_class.Statement.{statement}

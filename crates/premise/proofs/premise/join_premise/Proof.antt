@@ -1,7 +1,6 @@
 -- `join_premise` meets its contract.
 use borrow.Author.Needs.{needs}
 use mathlib.Core.Path.{refl}
-use native.Mathlib.Omega.{arith}
 use Rattle.base.specs.Part.{part}
 use Rattle.premise.specs.Joins.{pairs-room, holds, notes-room, joins-noted, joins-on, joins-clash}
 use Rattle.premise.proofs.premise.join_premise.Statement.{statement}

@@ -1,7 +1,5 @@
 -- `meet_premise` meets its contract.
 use borrow.Author.Needs.{needs}
-use native.Mathlib.Omega.{arith}
-use Rattle.base.specs.Part.{part}
 use Rattle.premise.specs.Meets.{meeting-spelt, meeting-asked, meets-short, meeting-joining, meets-joined}
 use Rattle.premise.proofs.premise.meet_premise.Statement.{statement}
 use Rattle.premise.proofs.premise.meet_premise.Tie as tie

@@ -1,6 +1,5 @@
 -- `take_premise` meets its contract.
 use borrow.Author.Needs.{needs}
-use native.Mathlib.Omega.{arith}
 use Rattle.premise.specs.Takes.{taking-copying, takes-full, taking-meeting, takes-met}
 use Rattle.premise.proofs.premise.take_premise.Statement.{statement}
 use Rattle.premise.proofs.premise.take_premise.Tie as tie

@@ -4,8 +4,7 @@ use mathlib.Core.Path.{_≡_, refl, sym, _∙_}
 use Prim.Native.Nat.{_-_, _≤_}
 use native.Mathlib.Omega.{arith}
 use lib.ListN.{length, drop}
-use Rattle.readback.specs.Listed.{earlier}
-use Rattle.readback.specs.Listed.{earlier-late, earlier-next, earlier-end}
+use Rattle.readback.specs.Listed.{earlier, earlier-late, earlier-next, earlier-end}
 use Rattle.readback.proofs.list.all_earlier.Statement.{statement}
 use Rattle.readback.proofs.list.all_earlier.Tie as tie
 

@@ -4,9 +4,10 @@ use mathlib.Core.Path.{_≡_}
 use Prim.Native.Nat.{_-_}
 use native.Mathlib.Omega.{arith}
 use lib.ListN.{length}
+use Rattle.base.specs.Outside.{outside-none, outside-then}
 use Rattle.cuts.specs.Marks.{Beyond}
 use Rattle.reader.specs.Walk.{Walking}
-use Rattle.reader.specs.Parsed.{tablesOf, beyond-same, beyond-then, at-end}
+use Rattle.reader.specs.Parsed.{tablesOf, at-end}
 use Rattle.reader.proofs.parsed.read_records.Statement.{statement}
 use Rattle.reader.proofs.parsed.read_records.Tie as tie
 
@@ -17,7 +18,7 @@ abbrev μ-loop : tie.MeasureT-loop
 μ-loop pack work₀ c at₀ last₀ work at last = length pack - at
 
 loop-holds : tie.Need-loop-holds Inv-loop μ-loop
-loop-holds c = let p = c .before .before .pre in (p .0, rw (← p .0) at (p .1), beyond-same _ _)
+loop-holds c = let p = c .before .before .pre in (p .0, rw (← p .0) at (p .1), outside-none _ _ _)
 
 take-next-requires : tie.Need-take-next-requires Inv-loop μ-loop
 take-next-requires c κs = (c .before .before .loop .inv .1, c .before .loop-test .taken)
@@ -26,7 +27,7 @@ loop-less : tie.Need-loop-less Inv-loop μ-loop
 loop-less c = let g = rw (c .before .end .given .1) at (c .before .before .before .before .before .take-next .ensures) in omega (arith, g .2, c .before .before .before .before .before .before .before .loop-test .taken)
 
 loop-again : tie.Need-loop-again Inv-loop μ-loop
-loop-again c = let g = rw (c .before .end .given .1) at (c .before .before .before .before .before .take-next .ensures) in (c .before .before .before .before .before .before .before .before .loop .inv .0, g .0, beyond-then _ _ _ _ (c .before .before .before .before .before .before .before .before .loop .inv .2) (g .1))
+loop-again c = let g = rw (c .before .end .given .1) at (c .before .before .before .before .before .take-next .ensures) in (c .before .before .before .before .before .before .before .before .loop .inv .0, g .0, outside-then _ _ _ _ _ (c .before .before .before .before .before .before .before .before .loop .inv .2) (g .1))
 
 returns : tie.Need-returns Inv-loop μ-loop
 returns c = rw (c .enum-told .given .1) at (c .before .before .before .before .take-next .ensures)

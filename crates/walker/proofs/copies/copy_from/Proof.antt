@@ -1,5 +1,4 @@
 -- `copy_from` meets its contract.
-use native.Mathlib.Omega.{arith}
 use Rattle.walker.specs.CopyCalls.{stock-refused, stock-copyable, stock-copied, stock-word}
 use borrow.Author.Needs.{needs}
 use Rattle.walker.proofs.copies.copy_from.Statement.{statement}

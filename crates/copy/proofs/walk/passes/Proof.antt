@@ -1,12 +1,12 @@
 -- `passes` meets its contract.
 use borrow.Author.Needs.{needs}
 use Rattle.base.specs.Part.{part}
-use Rattle.fresh.specs.Writes.{passes-not, passes-some, passes-none}
+use Rattle.copy.specs.Passes.{passes-not, passes-some, passes-none}
 use Prim.Native.Nat.{_+_}
 use lib.ListN.{getD}
 use native.Mathlib.Omega.{arith}
-use Rattle.fresh.proofs.node.passes.Statement.{statement}
-use Rattle.fresh.proofs.node.passes.Tie as tie
+use Rattle.copy.proofs.walk.passes.Statement.{statement}
+use Rattle.copy.proofs.walk.passes.Tie as tie
 
 returns : tie.Need-returns
 returns c = passes-not _ _ (c .if1 .taken)
