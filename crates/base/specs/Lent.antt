@@ -5,16 +5,16 @@ use Prim.Native.Nat.{ℕ, _+_, _-_, _≤_, _<_}
 use native.Mathlib.Omega.{arith}
 use native.Mathlib.Decide.{decLt}
 use lib.ListN.{length, getD}
-use Rattle.base.specs.Part.{part, put, part-at, part-same, length-part, length-put, part-put, put-before, put-at, put-behind}
-use Rattle.base.specs.Outside.{Outside}
+use Rattle.base.specs.Part.{part, put, part-at, length-part, length-put, part-put, put-before, put-at, put-behind}
+use Rattle.base.specs.Outside.{Outside, outside-wider, outside-put, part-ahead, part-behind}
 
 -- a part ahead of what was written
 pub lent-ahead : (a e : ℕ) (xs ys : List ℕ) → Outside a e xs ys → (b f : ℕ) → b ≤ f → f ≤ a → f ≤ length xs → part b (f - b) ys ≡ part b (f - b) xs
-lent-ahead a e xs ys A b f h k m = part-same b (f - b) ys xs (omega (arith, A .long)) (omega arith) (λ i l. A .ahead (b + i) (omega arith))
+lent-ahead a e xs ys A b f h k m = part-ahead a e xs ys A b (f - b) (omega arith) (omega arith)
 
 -- a part behind it
 pub lent-behind : (a e : ℕ) (xs ys : List ℕ) → Outside a e xs ys → (b f : ℕ) → b ≤ f → e ≤ b → f ≤ length xs → part b (f - b) ys ≡ part b (f - b) xs
-lent-behind a e xs ys A b f h k m = part-same b (f - b) ys xs (omega (arith, A .long)) (omega arith) (λ i l. A .behind (b + i) (omega arith))
+lent-behind a e xs ys A b f h k m = part-behind a e xs ys A b (f - b) (omega arith) (omega arith)
 
 -- ys came back in place of the part
 module _ (a e : ℕ) (xs ys : List ℕ) (up : a ≤ e) (fits : e ≤ length xs) (long : length ys ≡ length (part a (e - a) xs)) where
@@ -45,8 +45,4 @@ module _ (a e : ℕ) (xs ys : List ℕ) (up : a ≤ e) (fits : e ≤ length xs) 
 
   -- whatever changed of them
   pub back-outside : Outside a e xs (put a (e - a) ys xs)
-  back-outside = record {
-    long = length-put a (e - a) xs (omega arith) ys many;
-    ahead = put-before a (e - a) xs (omega arith) ys many;
-    behind = λ i h. put-behind a (e - a) xs (omega arith) ys many i (omega arith);
-  }
+  back-outside = outside-wider a (a + (e - a)) a e xs (put a (e - a) ys xs) (omega arith) (omega arith) (outside-put a (e - a) xs ys (omega arith) many)

@@ -2,6 +2,7 @@
 pub mod Part
 pub mod Outside
 pub mod Lent
+pub mod Word
 pub mod Upto
 pub mod Listed
 pub mod Hash

@@ -23,6 +23,7 @@ use Rattle.theory.specs.Patterns.Entries.{resolve-keeps}
 use Rattle.theory.specs.Patterns.Interned.{Grows, grows-then, grows-long}
 use Rattle.theory.specs.Walks.Reading.{numberedAs}
 use Rattle.theory.specs.Walks.Levels.{Inner}
+use Rattle.base.specs.Word.{wordOf}
 use Rattle.base.specs.Part.{part, part-at, length-part}
 use Rattle.base.specs.Outside.{Outside, part-behind}
 use Rattle.base.specs.declared.id.Node.{Node as Id}
@@ -47,7 +48,7 @@ use Rattle.premise.specs.Layout.{placeOf, tableIn, copiesAt, Laid, laid-on, lai
 use Rattle.premise.specs.Joins.{copiesIn}
 use Rattle.premise.specs.Meets.{instantiate-longer}
 use Rattle.premise.specs.declared.layout.Layout.{Layout}
-use Rattle.table.specs.Words.{valuesAt, numbersAt, wordOf, Framed}
+use Rattle.table.specs.Words.{valuesAt, numbersAt, Framed}
 use Rattle.table.specs.Kept.{lifts-on}
 use Rattle.rows.specs.Standing.{liftedOf}
 use Rattle.kept.specs.Circles.{Instance, instance}

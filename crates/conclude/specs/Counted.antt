@@ -19,6 +19,7 @@ use Rattle.definition.specs.Analysis.{Resolved, numberOf}
 use Rattle.definition.specs.Classes.{countOf, isSome, isFixed}
 use Rattle.theory.specs.Walks.Memo.{has}
 use Rattle.theory.specs.Walks.Resolving.{Resolving, isRead}
+use Rattle.base.specs.Word.{wordOf}
 use Rattle.base.specs.Part.{part-at, part-is, length-part}
 use Rattle.base.specs.declared.id.Pattern.{Pattern}
 use Rattle.store.specs.Stored.{nodes, written}
@@ -28,7 +29,7 @@ use Rattle.graph.specs.declared.graph.Graph.{Graph as Counts}
 use Rattle.premise.specs.Layout.{copiesAt}
 use Rattle.premise.specs.Joins.{copiesIn}
 use Rattle.premise.specs.declared.layout.Layout.{Layout}
-use Rattle.table.specs.Words.{patternsAt, numbersAt, tableEnd, tableIn, marksIn, wordOf, Framed}
+use Rattle.table.specs.Words.{patternsAt, numbersAt, tableEnd, tableIn, marksIn, Framed}
 use Rattle.table.specs.Moved.{table-at, table-long, nodes-most, numbers-most, framed-then, framed-moves, holding-moves}
 use Rattle.rows.specs.Standing.{liftedOf}
 use Rattle.kept.specs.Resolves.{resolve-length}

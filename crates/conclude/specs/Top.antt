@@ -14,6 +14,7 @@ use Rattle.definition.specs.Graph.{Graph, circular}
 use Rattle.theory.specs.Walks.Levels.{Inner}
 use Rattle.theory.specs.Walks.Reading.{numberedAs}
 use Rattle.theory.specs.Walks.Resolving.{resolving}
+use Rattle.base.specs.Word.{wordOf}
 use Rattle.base.specs.Part.{part, put, part-at}
 use Rattle.base.specs.Outside.{Outside}
 use Rattle.buffer.specs.Zero.{zeros-long, zeros-there, zeros-before, zeros-behind}
@@ -31,7 +32,7 @@ use Rattle.graph.specs.Cells.{Shows, nodes-few, shows-rows}
 use Rattle.premise.specs.Layout.{tableIn, Laid}
 use Rattle.premise.specs.Joins.{copiesIn, rows-outside}
 use Rattle.premise.specs.declared.layout.Layout.{Layout}
-use Rattle.table.specs.Words.{valuesAt, tableEnd, wordOf, Lies, Framed}
+use Rattle.table.specs.Words.{valuesAt, tableEnd, Lies, Framed}
 use Rattle.table.specs.Kept.{lifts-on}
 use Rattle.resolve.specs.Stacks.{Clears}
 use Rattle.rows.specs.Standing.{liftedOf}

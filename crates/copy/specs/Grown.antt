@@ -24,6 +24,7 @@ use Rattle.theory.specs.Copies.Copying.{valueOf-new, valueOf-old, looked, newes
 use Rattle.theory.specs.Walks.Walk.{Known}
 use Rattle.theory.specs.Walks.Memo.{has, has-value}
 use Rattle.theory.specs.Walks.CopyWalk.{isCopied, copyAt}
+use Rattle.base.specs.Word.{wordOf}
 use Rattle.base.specs.Part.{part, part-same, length-part}
 use Rattle.base.specs.Outside.{Outside}
 use Rattle.base.specs.Lent.{lent-ahead, lent-behind}
@@ -35,7 +36,7 @@ use Rattle.memo.specs.declared.memo.Memo.{Memo}
 use Rattle.graph.specs.Cells.{Shows, cells-more, marksIn}
 use Rattle.graph.specs.Inner.{inner-more}
 use Rattle.fresh.specs.declared.node.Copying.{Copying}
-use Rattle.copy.specs.Held.{indexIn, Room, wordOf, Holding}
+use Rattle.copy.specs.Held.{indexIn, Room, Holding}
 use Rattle.fresh.specs.Held.{tableIn, rowsAt, rowsIn, Apart, valueIn, orZero, copyIn, Beside}
 use Rattle.fresh.specs.Steps.{noted, vertexFor, numberFor, Key, CopiedTo, NoRoom}
 use Rattle.base.specs.declared.id.Node.{Node as Id}

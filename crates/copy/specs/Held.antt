@@ -1,7 +1,7 @@
 -- What the words of work hold while a pattern is copied, and what copying asks and answers.
 use mathlib.Core.Path.{_≡_}
 use mathlib.Core.List.{List, [], _∷_}
-use mathlib.Core.Option.{Option, none, some}
+use mathlib.Core.Option.{some}
 use Prim.Native.Nat.{ℕ, zero, suc, _+_, _*_, _-_, _/_, _≤_, _<_}
 use lib.ListN.{length, getD}
 use Rattle.definition.specs.Verdict.{valueOf}
@@ -12,6 +12,7 @@ use Rattle.theory.specs.Copies.Parts.{kidsIn, kids-fall, kids-inside}
 use Rattle.theory.specs.Walks.Machine.{Frame, frame, Stacked}
 use Rattle.theory.specs.Walks.WalkReady.{Sound}
 use Rattle.theory.specs.Walks.CopyWalk.{isCopied, copyAt, copy-made, copy-others}
+use Rattle.base.specs.Word.{wordOf}
 use Rattle.base.specs.Part.{part}
 use Rattle.store.specs.Stored.{Stored, nodes}
 use Rattle.memo.specs.Recall.{Remembers}
@@ -38,11 +39,6 @@ graphIn work l = part (l .graph) (l .end - l .graph) work
 pub record Room (words : List ℕ) (l : Copying) : Type 0 where
   pub table : l .copied + 2 * (length words / 2) ≤ l .walk
   pub stack : l .walk + 2 * (length words / 2) ≤ l .variables
-
--- a variable's word: 0, or its node and one
-abbrev pub wordOf : Option ℕ → ℕ
-wordOf none = 0
-wordOf (some x) = suc x
 
 -- the words hold a copy under way
 pub record Holding (work words cells flex : List ℕ) (l : Copying) (st : Store) (memo : Memo) (g : Counts) (c : Copy) : Type 0 where

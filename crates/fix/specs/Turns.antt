@@ -11,6 +11,7 @@ use Rattle.definition.specs.Classes.{isSome}
 use Rattle.definition.specs.Verdict.{Bound, valueOf}
 use Rattle.definition.specs.Graph.{Graph, Pair, vertex, root}
 use Rattle.definition.specs.Analysis.{valued}
+use Rattle.base.specs.Word.{wordOf}
 use Rattle.pack.specs.Held.{Proper}
 use Rattle.theory.specs.Walks.WalkOnce.{unfinished, unfinished-alike}
 use Rattle.theory.specs.Walks.Memo.{has}
@@ -20,7 +21,7 @@ use Rattle.graph.specs.declared.graph.Graph.{Graph as Counts}
 use Rattle.graph.specs.Cells.{markIn, graphIn, rowsEnd}
 use Rattle.graph.specs.Stack.{leftWord, rightWord, pairsIn, length-pairsIn}
 use Rattle.graph.specs.Inner.{many-nodes}
-use Rattle.valuation.specs.Words.{valuesAt, wordOf, Stands}
+use Rattle.valuation.specs.Words.{valuesAt, Stands}
 use Rattle.fix.specs.Taking.{take-rights}
 use Rattle.fix.specs.Takes.{Left}
 

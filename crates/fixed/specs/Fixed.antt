@@ -13,11 +13,12 @@ use Rattle.definition.specs.Store.{variableHead}
 use Rattle.definition.specs.Graph.{Graph, vertex, root, isVar, upTo}
 use Rattle.definition.specs.Analysis.{numberOf}
 use Rattle.definition.specs.Classes.{countOf, isSome, isFixed, mark}
+use Rattle.base.specs.Word.{wordOf}
 use Rattle.frame.specs.Name.{denied, not-denied}
 use Rattle.graph.specs.declared.graph.Graph.{Graph as Counts}
 use Rattle.graph.specs.Cells.{Shows, nodes-few}
 use Rattle.graph.specs.Joins.{HeadOf, head-variable, head-other}
-use Rattle.table.specs.Words.{valuesAt, tableEnd, tableIn, wordOf, Stands}
+use Rattle.table.specs.Words.{valuesAt, tableEnd, tableIn, Stands}
 use Rattle.table.specs.Moved.{table-at}
 use Rattle.graph.specs.Nodes.{FlexOf, RootOf}
 use Rattle.table.specs.Asked.{graph-long}

@@ -15,13 +15,13 @@ use Rattle.definition.specs.Verdict.{Bound, valueOf}
 use Rattle.definition.specs.Graph.{Graph, push, upTo}
 use Rattle.definition.specs.Analysis.{copied, Copy, pairing, copyNode, copyAll, parts, copy}
 use Rattle.definition.specs.Classes.{inOrder}
+use Rattle.base.specs.Word.{wordOf}
 use Rattle.base.specs.Part.{part, part-more}
 use Rattle.theory.specs.Copies.Parts.{parts-self, in-any}
 use Rattle.theory.specs.Copies.Copying.{valueOf-old, looked, newest, older}
 use Rattle.theory.specs.Copies.CopyNode.{copyNode-nodes}
 use Rattle.theory.specs.Walks.Memo.{has-value}
 use Rattle.theory.specs.Walks.CopyWalk.{noCopy, isCopied, copy-known}
-use Rattle.copy.specs.Held.{wordOf}
 use Rattle.premise.specs.Noted.{said, said-append}
 
 -- ---- what a node's copy adds

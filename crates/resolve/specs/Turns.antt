@@ -18,6 +18,7 @@ use Rattle.theory.specs.Walks.Machine.{Frame, frame, Walking, walking, turn, he
 use Rattle.theory.specs.Walks.Memo.{has}
 use Rattle.theory.specs.Walks.Levels.{argRoots, roots-variable, roots-applied, rankOf, roots-fall}
 use Rattle.theory.specs.Walks.Resolving.{Resolving, isRead, readRoot}
+use Rattle.base.specs.Word.{wordOf}
 use Rattle.base.specs.Part.{part-at}
 use Rattle.store.specs.declared.nodes.Store.{Store}
 use Rattle.catalog.specs.declared.whole.Catalog.{Catalog}
@@ -27,7 +28,7 @@ use Rattle.lift.specs.declared.walk.Lifted.{Lifted}
 use Rattle.graph.specs.declared.graph.Graph.{Graph as Counts}
 use Rattle.graph.specs.Cells.{rowsEnd}
 use Rattle.table.specs.declared.words.Table.{Table}
-use Rattle.table.specs.Words.{patternsAt, tableIn, marksIn, wordOf, Says, Holding}
+use Rattle.table.specs.Words.{patternsAt, tableIn, marksIn, Says, Holding}
 use Rattle.table.specs.Moved.{nodes-most, holding-moves}
 use Rattle.table.specs.Asked.{CountOf, graph-long}
 use Rattle.root.specs.Roots.{Open}

@@ -20,6 +20,7 @@ use Rattle.theory.specs.Walks.Again.{stored, headed}
 use Rattle.theory.specs.Walks.Memo.{has}
 use Rattle.theory.specs.Walks.Reading.{numberedAs, resolvedOne}
 use Rattle.theory.specs.Walks.Resolving.{Resolving, isRead}
+use Rattle.base.specs.Word.{wordOf}
 use Rattle.base.specs.Part.{part, part-at, length-part}
 use Rattle.base.specs.Probe.{taken}
 use Rattle.store.specs.Words.{nodeWith, node-of}
@@ -34,7 +35,7 @@ use Rattle.graph.specs.declared.graph.Graph.{Graph as Counts}
 use Rattle.graph.specs.Cells.{rowsEnd, shows-rows}
 use Rattle.graph.specs.Nodes.{SortOf}
 use Rattle.table.specs.declared.words.Table.{Table}
-use Rattle.table.specs.Words.{valuesAt, patternsAt, numbersAt, tableEnd, tableIn, marksIn, wordOf, Says, Lies, Holding, Framed}
+use Rattle.table.specs.Words.{valuesAt, patternsAt, numbersAt, tableEnd, tableIn, marksIn, Says, Lies, Holding, Framed}
 use Rattle.table.specs.Kept.{lifts-on}
 use Rattle.table.specs.Moved.{taken-most, table-at, table-long, nodes-most, table-room, table-apart, lies-apart}
 use Rattle.table.specs.Asked.{graph-long}

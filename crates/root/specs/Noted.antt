@@ -18,6 +18,7 @@ use Rattle.definition.specs.Graph.{Graph, vertex, isVar}
 use Rattle.definition.specs.Analysis.{numberOf, resolveVariable, resolveAt}
 use Rattle.theory.specs.Copies.Copying.{valueOf-new, valueOf-old}
 use Rattle.theory.specs.Walks.Resolving.{Resolving, isRead, readRoot, read-made, read-others, right-root}
+use Rattle.base.specs.Word.{wordOf}
 use Rattle.base.specs.Part.{part, part-set, part-set-before, part-same, length-part}
 use Rattle.base.specs.Probe.{taken}
 use Rattle.store.specs.declared.nodes.Store.{Store}
@@ -29,7 +30,7 @@ use Rattle.graph.specs.declared.graph.Graph.{Graph as Counts}
 use Rattle.graph.specs.Cells.{rowsEnd}
 use Rattle.table.specs.declared.words.Table.{Table}
 use Rattle.root.specs.declared.root.Resolved.the-variants as read
-use Rattle.table.specs.Words.{valuesAt, patternsAt, numbersAt, tableIn, marksIn, wordOf, Holding}
+use Rattle.table.specs.Words.{valuesAt, patternsAt, numbersAt, tableIn, marksIn, Holding}
 use Rattle.table.specs.Kept.{number-fits}
 use Rattle.table.specs.Moved.{table-set, table-long, framed-then}
 use Rattle.root.specs.Roots.{Open, Any, Opening, readsAs, Given, Gives, Notes}

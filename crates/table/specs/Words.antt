@@ -2,8 +2,8 @@
 use mathlib.Core.Path.{_≡_}
 use mathlib.Core.Bool.{Bool, true, false}
 use mathlib.Core.List.{List}
-use mathlib.Core.Option.{Option, none, some}
-use Prim.Native.Nat.{ℕ, suc, _+_, _*_, _-_, _≤_, _<_}
+use mathlib.Core.Option.{some}
+use Prim.Native.Nat.{ℕ, _+_, _*_, _-_, _≤_, _<_}
 use lib.ListN.{length, getD, take, drop}
 use Rattle.definition.specs.Pack.{Pack}
 use Rattle.definition.specs.Verdict.{Bound, valueOf}
@@ -11,6 +11,7 @@ use Rattle.definition.specs.Graph.{Graph, vertex, circular}
 use Rattle.definition.specs.Analysis.{numberOf}
 use Rattle.theory.specs.Walks.Levels.{Inner}
 use Rattle.theory.specs.Walks.Resolving.{Resolving, isRead, Right}
+use Rattle.base.specs.Word.{wordOf}
 use Rattle.base.specs.Part.{part}
 use Rattle.base.specs.Probe.{taken}
 use Rattle.store.specs.Stored.{nodes}
@@ -48,11 +49,6 @@ tableIn t work = take (t .end - t .at) (drop (t .at) work)
 -- the patterns' words
 abbrev pub marksIn : List ℕ → List ℕ → Counts → List ℕ
 marksIn cells table g = part (patternsAt cells) (g .nodes) table
-
--- a word: 0 is none, else it is the number and one
-abbrev pub wordOf : Option ℕ → ℕ
-wordOf none = 0
-wordOf (some n) = suc n
 
 -- cells and table hold a graph without circles, of nodes with few arguments, and values of its nodes
 pub record Stands (cells table : List ℕ) (g : Counts) (h : Graph) (vs : List Bound) : Type 0 where

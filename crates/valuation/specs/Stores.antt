@@ -8,7 +8,8 @@ use native.Mathlib.Omega.{arith}
 use lib.ListN.{length, getD, set, take, drop, replicate}
 use Rattle.definition.specs.Verdict.{Bound, valueOf}
 use Rattle.definition.specs.Graph.{Graph, circular}
-use Rattle.valuation.specs.Words.{valuesEnd, valuesAt, tableIn, wordOf, Stands, stands-none, Placed, Framed, table-at, table-set, table-long, table-back, framed-back, framed-set}
+use Rattle.base.specs.Word.{wordOf}
+use Rattle.valuation.specs.Words.{valuesEnd, valuesAt, tableIn, Stands, stands-none, Placed, Framed, table-at, table-set, table-long, table-back, framed-back, framed-set}
 use Rattle.base.specs.Outside.{outside-then}
 use Rattle.base.specs.Part.{put}
 use Rattle.buffer.specs.Zero.{zeros-long, zeros-there, zeros-before, zeros-behind}

@@ -2,8 +2,7 @@
 use mathlib.Core.Path.{_≡_, sym, ap, _∙_}
 use mathlib.Core.Bool.{false}
 use mathlib.Core.List.{List, [], _∷_}
-use mathlib.Core.Option.{Option, none, some}
-use Prim.Native.Nat.{ℕ, suc, _+_, _*_, _-_, _≤_, _<_}
+use Prim.Native.Nat.{ℕ, _+_, _*_, _-_, _≤_, _<_}
 use native.Mathlib.Omega.{arith}
 use native.Mathlib.Numerals.{add-one}
 use native.Mathlib.Decide.{ℕ-discrete}
@@ -13,6 +12,7 @@ use Rattle.definition.specs.Pack.{Pack}
 use Rattle.definition.specs.Verdict.{Bound, valueOf}
 use Rattle.definition.specs.Graph.{Graph, circular}
 use Rattle.definition.specs.Analysis.{pairing}
+use Rattle.base.specs.Word.{wordOf}
 use Rattle.base.specs.Lent.{back as lent-back, back-first}
 use Rattle.base.specs.Outside.{Outside, outside-wider, outside-set}
 use Rattle.base.specs.Part.{part, put, part-at, length-part, part-set}
@@ -36,11 +36,6 @@ valuesEnd words = 9 * length words + 7
 -- the graph's table, as it is lent
 abbrev pub tableIn : Valued → List ℕ → List ℕ
 tableIn l work = take (l .end - l .at) (drop (l .at) work)
-
--- a value's word: 0 is none, else it is the ground node's number and one
-abbrev pub wordOf : Option ℕ → ℕ
-wordOf none = 0
-wordOf (some n) = suc n
 
 -- cells and table hold a graph without circles, and values of its nodes
 pub record Stands (words table : List ℕ) (s : Counts) (h : Graph) (vs : List Bound) : Type 0 where
