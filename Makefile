@@ -41,6 +41,7 @@ bench: tools dock
 	@$(TOOLS)/bench intern
 	@$(TOOLS)/bench unify --times
 	@$(TOOLS)/bench walk --times
+	@$(TOOLS)/bench counts
 	@$(TOOLS)/bench classes --times
 	@$(TOOLS)/bench read
 	@$(TOOLS)/bench check

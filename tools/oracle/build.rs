@@ -24,6 +24,13 @@ const HOOKS: &[(&str, Where, &str, &str)] = &[
         "    let emitted = match out {",
         "    crate::hook::classes(&class_of, classes.iter().map(|c| (c.conclusion, &c.flex[..])), &instances, &an.pat);",
     ),
+    // The goals' open variables.
+    (
+        "generalize.rs",
+        Ahead,
+        "            Some(emit(",
+        "            crate::hook::open(input.open.iter().map(|o| o.iter().copied().collect()));",
+    ),
     // Patterns behind emission.
     (
         "generalize.rs",

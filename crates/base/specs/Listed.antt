@@ -5,7 +5,7 @@ use Prim.Native.Nat.{ℕ, zero, suc, _+_, _<_}
 use native.Mathlib.Numerals.{add-one}
 use native.Mathlib.Omega.{arith}
 use native.Mathlib.Decide.{ℕ-discrete}
-use lib.ListN.{length, getD, length-append, List·getD-append}
+use lib.ListN.{length, getD, replicate, length-append, List·getD-append}
 use lib.Seq.{getD-at}
 
 module _ {A : Type 0} where
@@ -34,3 +34,9 @@ module _ {A : Type 0} where
   unfolding listed
   listed-same f g zero h = refl
   listed-same f g (suc n) h = ap₂ (λ (xs : List A) (x : A). xs ++ (x ∷ [])) (listed-same f g n (λ i l. h i (omega arith))) (h n (omega arith))
+
+  -- a list of nothing but d has d at every place, and past its end
+  pub only-at : (d : A) (n i : ℕ) → getD (replicate n d) i d ≡ d
+  only-at d zero i = refl
+  only-at d (suc n) zero = refl
+  only-at d (suc n) (suc i) = only-at d n i

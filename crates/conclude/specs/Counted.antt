@@ -1,6 +1,6 @@
 -- What was read back, with the fixed variables counted: the numbered ones are nodes of the graph.
 use mathlib.Core.Path.{_≡_, refl, sym, ap, _∙_}
-use mathlib.Core.Bool.{Bool, true, false, _||_}
+use mathlib.Core.Bool.{Bool, true, false}
 use mathlib.Core.List.{List, [], _∷_}
 use mathlib.Core.Option.{none, some}
 use Prim.Native.Nat.{ℕ, suc, _+_, _≤_, _<_}
@@ -9,7 +9,7 @@ use native.Mathlib.Decide.{decLt}
 use borrow.Author.Tests.{eq-eqb}
 use lib.Dec.{eqb}
 use lib.ListN.{length, getD, List·getD-eq-default}
-use Rattle.definition.specs.Test.{is, see, never, any}
+use Rattle.definition.specs.Test.{or-right, is, see, never, any}
 use Rattle.definition.specs.Pack.{Node, Pack}
 use Rattle.definition.specs.Good.{Below}
 use Rattle.definition.specs.Verdict.{Bound, valueOf}
@@ -51,11 +51,7 @@ unfolding any
 below-found n [] h = tt
 below-found n (x ∷ xs) h =
     let e = eq-eqb x x refl in
-    (h x (rw e), below-found n xs (λ y q. h y (behind (eqb y x) (any (eqb y) xs) q)))
-  where
-    behind : (a b : Bool) → b ≡ true → (a || b) ≡ true
-    behind true b q = refl
-    behind false b q = q
+    (h x (rw e), below-found n xs (λ y q. h y (or-right (eqb y x) (any (eqb y) xs) q)))
 
 -- one without a number is not found
 none-there : (x : ℕ) (xs : List ℕ) → numberOf x xs 0 ≡ none → false ≡ any (eqb x) xs

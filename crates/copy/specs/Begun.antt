@@ -1,11 +1,12 @@
 -- The beginning of a copy: the memo cleared, the variables' words zeroed, one frame written.
-use mathlib.Core.Path.{_≡_, refl, sym, ap, _∙_, subst}
+use mathlib.Core.Path.{_≡_, sym, ap, _∙_, subst}
 use mathlib.Core.List.{List}
 use mathlib.Core.Option.{Option, none}
-use Prim.Native.Nat.{ℕ, zero, suc, _+_, _-_, _≤_}
+use Prim.Native.Nat.{ℕ, _+_, _-_, _≤_}
 use native.Mathlib.Omega.{arith}
 use lib.ListN.{length, getD, set, replicate, length-set, length-replicate}
 use lib.Seq.{getD-set-same, getD-set-other}
+use Rattle.base.specs.Listed.{only-at}
 use Rattle.base.specs.Part.{part, put}
 use Rattle.base.specs.Outside.{Outside, outside-then, outside-wider, outside-set}
 use Rattle.base.specs.Lent.{lent-ahead, back, back-at, back-outside}
@@ -72,20 +73,8 @@ module _ (work flex : List ℕ) (l : Copying) (p : ℕ) (memo : Memo) (up : l .c
           (outside-wider (l .copied) (l .walk) (l .copied) end work first (omega arith) (omega arith) O₁)
           (outside-then (l .copied) end first second third (outside-wider (l .variables) end (l .copied) end first second (omega arith) (omega arith) O₂) (outside-wider (l .walk) (l .walk + 2) (l .copied) end second third (omega arith) (omega arith) O₃));
       remembers = subst (λ (t : List ℕ). Remembers t memo) (sym table-there) (R .0);
-      empty = λ q. ap (λ (t : List ℕ). getD (recall t memo) q none) table-there ∙ ap (λ (o : List (Option ℕ)). getD o q none) (R .1) ∙ none-at n q;
+      empty = λ q. ap (λ (t : List ℕ). getD (recall t memo) q none) table-there ∙ ap (λ (o : List (Option ℕ)). getD o q none) (R .1) ∙ only-at none n q;
       node = getD-set-other (set second (l .walk) p) (l .walk + 1) (l .walk) 0 0 (λ e. absurd (omega arith)) ∙ getD-set-same second (l .walk) p 0 (omega (arith, O₂ .long, O₁ .long));
       taken = getD-set-same (set second (l .walk) p) (l .walk + 1) 0 0 (omega (arith, length-set second (l .walk) p, O₂ .long, O₁ .long));
-      variables = λ k h. O₃ .behind (l .variables + k) (omega arith) ∙ back-at (l .variables) end first zs (omega arith) second-fits long-zs k (omega arith) ∙ ap (λ (t : List ℕ). getD t k 0) z ∙ zero-at (length (part (l .variables) (end - l .variables) first)) k;
+      variables = λ k h. O₃ .behind (l .variables + k) (omega arith) ∙ back-at (l .variables) end first zs (omega arith) second-fits long-zs k (omega arith) ∙ ap (λ (t : List ℕ). getD t k 0) z ∙ only-at 0 (length (part (l .variables) (end - l .variables) first)) k;
     }
-      where
-        -- nothing is at any place
-        none-at : (n q : ℕ) → _≡_ {A = Option ℕ} (getD (replicate n none) q none) none
-        none-at zero q = refl
-        none-at (suc n) zero = refl
-        none-at (suc n) (suc q) = none-at n q
-
-        -- zero is at any place
-        zero-at : (n q : ℕ) → _≡_ {A = ℕ} (getD (replicate n 0) q 0) 0
-        zero-at zero q = refl
-        zero-at (suc n) zero = refl
-        zero-at (suc n) (suc q) = zero-at n q

@@ -30,7 +30,6 @@ use Rattle.copy.specs.declared.walk.Turn.the-variants as turns
 use Rattle.graph.specs.Links.{Holds}
 use Rattle.graph.specs.declared.graph.Pushed.{Pushed}
 use Rattle.graph.specs.declared.graph.Pushed.the-variants as pushed
-use Rattle.copy.specs.declared.walk.Turn.{Turn}
 use Rattle.fresh.specs.Held.{tableIn, rowsAt, rowsIn, Apart, valueIn, Beside}
 use Rattle.graph.specs.Cells.{marksIn}
 use Rattle.copy.specs.Held.{framesIn, Ready}

@@ -22,6 +22,7 @@ pub mod Classes
 pub mod Figures
 pub mod Goals
 pub mod Shown
+pub mod Open
 pub mod Calls
 pub mod Laws
 pub mod Rows

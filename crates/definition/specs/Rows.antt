@@ -11,4 +11,5 @@ pub mod Verdict
 pub mod Classes
 pub mod Order
 pub mod Unify
+pub mod Open
 pub mod Table

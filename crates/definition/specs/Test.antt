@@ -32,6 +32,25 @@ unfolding _and_
 and-parts true b e = (refl, e)
 and-parts false b e = never (cc)
 
+-- one of two passes
+pub or-left : (a b : Bool) → a ≡ true → (a || b) ≡ true
+or-left true b e = refl
+or-left false b e = never (cc)
+
+pub or-right : (a b : Bool) → b ≡ true → (a || b) ≡ true
+or-right true b e = refl
+or-right false b e = e
+
+-- the second, if the first does not
+pub or-other : (a b : Bool) → a ≡ false → (a || b) ≡ true → b ≡ true
+or-other true b n e = never (cc)
+or-other false b n e = e
+
+-- the first alone decides
+pub or-none : (a b : Bool) → b ≡ false → (a || b) ≡ a
+or-none true b e = refl
+or-none false b e = e
+
 -- every element passes
 unfoldable pub all : {A : Type 0} → (A → Bool) → List A → Bool
 unfolding _and_

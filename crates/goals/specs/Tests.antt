@@ -27,7 +27,6 @@ use Rattle.key.specs.declared.classes.Counts.{Counts}
 use Rattle.premise.specs.declared.layout.Layout.{Layout}
 use Rattle.rows.specs.Rows.{row-within, row-conclusion}
 use Rattle.rows.specs.Standing.{Standing, standing-held, standing-keyed, standing-behind, standing-few}
-use Rattle.instance.specs.Tables.{lent, lent-before, Clears}
 use Rattle.instance.specs.Held.{Given, Kept, outside-same}
 use Rattle.instance.specs.declared.tables.Instance.{Instance}
 use Rattle.goals.specs.declared.each.Tested.{Tested}
@@ -35,6 +34,7 @@ use Rattle.goals.specs.declared.each.Tested.the-variants as answers
 use Rattle.goals.specs.Ready.{Ready, Testable, ready-on}
 use Rattle.goals.specs.Each.{TestsEach}
 use Rattle.kept.specs.Variables.{VariablesBelow}
+use Rattle.memo.specs.Lent.{lent, lent-before, Clears}
 
 -- ---- what is asked
 -- the instance test's tables stand behind the store's index, in place of the copies' words: room for as many pairs as the store has

@@ -4,21 +4,10 @@ use crate::each::test_each;
 use catalog::whole::Catalog;
 use instance::tables::Instance;
 use key::classes::Keying;
-use memo::memo::Memo;
+use memo::part::begin;
 use premise::layout::Layout;
 use store::nodes::Store;
-ghost use Prim.Native.Nat.{_≤_};
-ghost use lib.ListN.{length};
-ghost use Rattle.instance.specs.Tables.{Clears};
 ghost use Rattle.goals.specs.Tests.{Made, Tests};
-
-// A memo without entries between `from` and `to`, whatever stands there.
-fn begin_memo(work: &mut [u32], from: usize, to: usize) -> Memo
-    requires { ⌜ (from ≤ to) × (to ≤ length (now work)) ⌝ }
-    ensures { λ r. ⌜ Clears (now (work .entry)) (now (work .exit)) from to r ⌝ }
-{
-    Memo::new(&mut work[from..to])
-}
 
 // The goals are tested in ascending order; the words of `t`'s tables may hold anything before.
 pub fn test_goals(
@@ -38,7 +27,7 @@ pub fn test_goals(
     let a = t.seen;
     let b = t.values;
     let e = t.end;
-    let seen = begin_memo(work, a, b);
-    let values = begin_memo(work, b, e);
+    let seen = begin(work, a, b);
+    let values = begin(work, b, e);
     test_each(pack, work, class, words, c, k, l, t, st, seen, values)
 }

@@ -9,7 +9,7 @@ use native.Mathlib.Decide.{ℕ-discrete, decLt}
 use borrow.Author.Tests.{eq-eqb, ne-eqb}
 use lib.ListN.{length, getD, set}
 use lib.Seq.{set-getD}
-use Rattle.definition.specs.Test.{is, see}
+use Rattle.definition.specs.Test.{is, see, or-right, or-none}
 use Rattle.definition.specs.Store.{variableHead}
 use Rattle.definition.specs.Graph.{Vertex, Graph, vertex, isVar, withFlex, join, bind}
 use Rattle.theory.specs.Unification.Forest.{SameLinks}
@@ -104,14 +104,6 @@ bind-shares g x y = elim (see (isVar (vertex g y))) [
   | is false e ↦ rw (e, bind, sharing)
 ]
 
-or-false : (b : Bool) → (b || false) ≡ b
-or-false true = refl
-or-false false = refl
-
-or-true : (b : Bool) → (b || true) ≡ true
-or-true true = refl
-or-true false = refl
-
 module _ (words table : List ℕ) (s : Counts) (g : Graph) (S : Shows words table s g) (x y : ℕ) (A : Apart table s x y) where
   inside : (z : ℕ) → z < s .nodes → z < length g
   inside z l = omega (arith, length-graphIn words table (s .nodes), S .like .long)
@@ -130,7 +122,7 @@ module _ (words table : List ℕ) (s : Counts) (g : Graph) (S : Shows words tabl
   unfolding sharing
   shares-same e z =
       let f : vertex g x .flex ≡ false = sym (flex-of x (A .left)) ∙ ap markIn z in
-      let h : markIn (flexWord words table y) ≡ (vertex g y .flex || vertex g x .flex) = flex-of y (A .right) ∙ sym (or-false (vertex g y .flex)) ∙ ap (λ (b : Bool). vertex g y .flex || b) (sym f) in
+      let h : markIn (flexWord words table y) ≡ (vertex g y .flex || vertex g x .flex) = flex-of y (A .right) ∙ sym (or-none (vertex g y .flex) (vertex g x .flex) f) in
       rw (e, sharing) (subst (λ (t : List ℕ). Shows words t s (set g y (withFlex (vertex g y) (vertex g y .flex || vertex g x .flex)))) (set-getD table (restAt words + (3 * y + 1)) 0) (shows-flexed words table s g S y (flexWord words table y) (A .right) (vertex g y .flex || vertex g x .flex) h))
 
   -- x is
@@ -138,7 +130,7 @@ module _ (words table : List ℕ) (s : Counts) (g : Graph) (S : Shows words tabl
   unfolding sharing
   shares-flex e z =
       let f : vertex g x .flex ≡ true = sym (flex-of x (A .left)) ∙ marked-some (flexWord words table x) z in
-      rw (e, sharing) (shows-flexed words table s g S y 1 (A .right) (vertex g y .flex || vertex g x .flex) (sym (ap (λ (b : Bool). vertex g y .flex || b) f ∙ or-true (vertex g y .flex))))
+      rw (e, sharing) (shows-flexed words table s g S y 1 (A .right) (vertex g y .flex || vertex g x .flex) (sym (or-right (vertex g y .flex) (vertex g x .flex) f)))
     where
       marked-some : (m : ℕ) → (m ≡ 0 → ⊥) → markIn m ≡ true
       marked-some zero d = absurd (d refl)

@@ -19,13 +19,14 @@ use Rattle.theory.specs.Walks.Matching.{matching, matchesLeft}
 use Rattle.theory.specs.Walks.Matched.{Leads, leads-first}
 use Rattle.store.specs.Stored.{nodes}
 use Rattle.memo.specs.Recall.{Remembers}
+use Rattle.memo.specs.Lent.{lent, lent-before, lent-behind, Clears, recall-before, recall-behind}
 use Rattle.store.specs.declared.nodes.Store.{Store}
 use Rattle.memo.specs.declared.memo.Memo.{Memo}
 use Rattle.instance.specs.declared.tables.Instance.{Instance}
 use Rattle.instance.specs.declared.walk.Turn.the-variants.{Unlike}
 use Rattle.instance.specs.declared.walk.Matched.the-variants.{Yes, No}
-use Rattle.instance.specs.Tables.{lent, lent-before, lent-behind, Clears, pairsIn, pairs-more}
-use Rattle.instance.specs.Held.{Given, Kept, Memos, recall-before, recall-behind, given-reads, given-on, below-words}
+use Rattle.instance.specs.Pairs.{pairsIn, pairs-more}
+use Rattle.instance.specs.Held.{Given, Kept, Memos, given-reads, given-on, below-words}
 use Rattle.instance.specs.Takes.{Left, Ready, TakesPair}
 use Rattle.instance.specs.Matches.{Matches, left-stop, left-done, Going, going-reads}
 

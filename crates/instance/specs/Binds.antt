@@ -11,9 +11,9 @@ use Rattle.definition.specs.Verdict.{Bound, valueOf, bound}
 use Rattle.definition.specs.Analysis.{pairing}
 use Rattle.base.specs.Outside.{Outside, outside-none}
 use Rattle.memo.specs.Recall.{recall, Remembers}
+use Rattle.memo.specs.Lent.{lent, Puts}
 use Rattle.memo.specs.declared.memo.Memo.{Memo}
 use Rattle.instance.specs.declared.tables.Instance.{Instance}
-use Rattle.instance.specs.Tables.{lent, Puts}
 use Rattle.instance.specs.Held.{valueAt, recall-more}
 
 -- a memo that has room for the variable

@@ -2,7 +2,7 @@
 use mathlib.Core.Path.{_≡_, sym, ap, subst, _∙_}
 use mathlib.Core.Bool.{true, false}
 use mathlib.Core.List.{List, [], _∷_}
-use mathlib.Core.Option.{Option, none}
+use mathlib.Core.Option.{Option}
 use Prim.Native.Nat.{ℕ, zero, suc, _+_, _*_, _≤_, _<_}
 use native.Mathlib.Omega.{arith}
 use native.Mathlib.Decide.{ℕ-discrete}
@@ -25,10 +25,10 @@ use Rattle.theory.specs.Walks.Valuing.{total}
 use Rattle.theory.specs.Walks.Matching.{numberOf}
 use Rattle.store.specs.Stored.{Stored, nodes}
 use Rattle.memo.specs.Recall.{recall, Remembers, length-recall}
+use Rattle.memo.specs.Lent.{lent, lent-long, lent-before, recallAt, Puts}
 use Rattle.store.specs.declared.nodes.Store.{Store}
 use Rattle.memo.specs.declared.memo.Memo.{Memo}
 use Rattle.instance.specs.declared.tables.Instance.{Instance}
-use Rattle.instance.specs.Tables.{lent, lent-long, lent-before, lent-behind, recallAt, Puts}
 
 -- what a pattern node was matched with
 abbrev pub seenAt : List ℕ → Instance → Memo → ℕ → Option ℕ
@@ -76,16 +76,6 @@ recall-more work work′ a e memo k v W vs h j = elim (ℕ-discrete j k) [
   | yes q ↦ ap (λ (i : ℕ). recallAt a e work′ memo i) q ∙ W .here ∙ sym (ap (λ (i : ℕ). valueOf i (pairing k v ∷ vs)) q ∙ valueOf-new k v vs)
   | no d ↦ W .others j (λ q. d (sym q)) ∙ h j ∙ sym (valueOf-old k v vs j d)
 ]
-
--- a memo ahead of what was written recalls the same
-pub recall-before : (a e : ℕ) (work work′ : List ℕ) → Outside a e work work′ → (b f : ℕ) → b ≤ f → f ≤ a → f ≤ length work → (memo : Memo) (k : ℕ) → recallAt b f work′ memo k ≡ recallAt b f work memo k
-unfolding recallAt
-recall-before a e work work′ A b f h i m memo k = ap (λ (zs : List ℕ). getD (recall zs memo) k none) (lent-before a e work work′ A b f h i m)
-
--- and so does one behind it
-pub recall-behind : (a e : ℕ) (work work′ : List ℕ) → Outside a e work work′ → (b f : ℕ) → b ≤ f → e ≤ b → f ≤ length work → (memo : Memo) (k : ℕ) → recallAt b f work′ memo k ≡ recallAt b f work memo k
-unfolding recallAt
-recall-behind a e work work′ A b f h i m memo k = ap (λ (zs : List ℕ). getD (recall zs memo) k none) (lent-behind a e work work′ A b f h i m)
 
 -- ---- what stays
 -- the pack's tables are as they were

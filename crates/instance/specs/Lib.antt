@@ -1,5 +1,5 @@
 -- The instance test: its tables in work, and the walk over them.
-pub mod Tables
+pub mod Pairs
 pub mod Held
 pub mod Binds
 pub mod Pushes

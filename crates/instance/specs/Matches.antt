@@ -28,7 +28,7 @@ use Rattle.instance.specs.declared.tables.Instance.{Instance}
 use Rattle.instance.specs.declared.walk.Turn.the-variants.{On}
 use Rattle.instance.specs.declared.walk.Matched.{Matched}
 use Rattle.instance.specs.declared.walk.Matched.the-variants.{Yes, No}
-use Rattle.instance.specs.Tables.{pairsIn, length-pairsIn}
+use Rattle.instance.specs.Pairs.{pairsIn, length-pairsIn}
 use Rattle.instance.specs.Held.{seenAt, valueAt, Patterns, Kept, Memos, given-reads, given-on}
 use Rattle.instance.specs.Takes.{Left, Ready, leftWord, rightWord, TakesPair}
 

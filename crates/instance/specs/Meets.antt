@@ -21,13 +21,14 @@ use Rattle.theory.specs.Walks.Ahead.{ahead, ahead-unlike}
 use Rattle.theory.specs.Walks.Matching.{matching, takeMatch}
 use Rattle.store.specs.Stored.{Stored, nodes}
 use Rattle.memo.specs.Recall.{recall, Remembers}
+use Rattle.memo.specs.Lent.{lent, lent-before, lent-behind, Puts, recall-behind}
 use Rattle.store.specs.declared.nodes.Store.{Store}
 use Rattle.memo.specs.declared.memo.Memo.{Memo}
 use Rattle.instance.specs.declared.tables.Instance.{Instance}
 use Rattle.instance.specs.declared.walk.Turn.{Turn}
 use Rattle.instance.specs.declared.walk.Turn.the-variants.{On, Unlike}
-use Rattle.instance.specs.Tables.{lent, lent-before, lent-behind, Puts, pairsIn, pairs-same}
-use Rattle.instance.specs.Held.{seenAt, Given, Kept, Memos, recall-more, recall-behind, outside-same, given-seen, given-reads, given-ground}
+use Rattle.instance.specs.Pairs.{pairsIn, pairs-same}
+use Rattle.instance.specs.Held.{seenAt, Given, Kept, Memos, recall-more, outside-same, given-seen, given-reads, given-ground}
 use Rattle.instance.specs.Pushes.{argsOf, Pushable, Pushes}
 use Rattle.instance.specs.Taking.{take-seen, take-other, take-unlike, take-ahead}
 

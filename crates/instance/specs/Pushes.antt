@@ -18,8 +18,9 @@ use Rattle.pack.specs.Held.{Held, held-on, reads-on}
 use Rattle.theory.specs.Walks.Ahead.{beside, ahead, ahead-turn, ahead-all, ahead-none}
 use Rattle.store.specs.Stored.{Stored, nodes}
 use Rattle.store.specs.declared.nodes.Store.{Store}
+use Rattle.memo.specs.Lent.{lent, lent-before}
 use Rattle.instance.specs.declared.tables.Instance.{Instance}
-use Rattle.instance.specs.Tables.{lent, lent-before, pairsIn, pairs-more}
+use Rattle.instance.specs.Pairs.{pairsIn, pairs-more}
 use Rattle.instance.specs.Held.{outside-same}
 
 -- the arguments of a pattern

@@ -24,11 +24,12 @@ use Rattle.theory.specs.Walks.Matched.{Leads}
 use Rattle.store.specs.Stored.{nodes}
 use Rattle.store.specs.declared.nodes.Store.{Store}
 use Rattle.memo.specs.declared.memo.Memo.{Memo}
+use Rattle.memo.specs.Lent.{lent-before, recall-before}
 use Rattle.instance.specs.declared.tables.Instance.{Instance}
 use Rattle.instance.specs.declared.walk.Turn.{Turn}
 use Rattle.instance.specs.declared.walk.Turn.the-variants.{On, Unlike}
-use Rattle.instance.specs.Tables.{lent-before, pairsIn, length-pairsIn, pairs-same}
-use Rattle.instance.specs.Held.{Given, Kept, Memos, recall-before, given-value}
+use Rattle.instance.specs.Pairs.{pairsIn, length-pairsIn, pairs-same}
+use Rattle.instance.specs.Held.{Given, Kept, Memos, given-value}
 use Rattle.instance.specs.Binds.{Bindable, Gives, Binds}
 use Rattle.instance.specs.Pushes.{argsOf}
 use Rattle.instance.specs.Taking.{take-variable}

@@ -1,14 +1,14 @@
 // A pattern of the store against a ground node by a worklist: each application of the store is matched once.
 use crate::tables::Instance;
-use crate::tables::clear;
-use crate::tables::get;
-use crate::tables::put;
 use crate::tables::put_pair;
 use base::id::Ground;
 use base::id::Pattern;
 use catalog::whole::Catalog;
 use memo::memo::Known;
 use memo::memo::Memo;
+use memo::part::clear;
+use memo::part::get;
+use memo::part::put;
 use pack::node::node_argument;
 use pack::node::node_arity;
 use pack::node::node_head;

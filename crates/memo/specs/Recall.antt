@@ -10,6 +10,7 @@ use borrow.Author.Tests.{eq-eqb, ne-eqb}
 use lib.Dec.{eqb}
 use lib.ListN.{length, getD, set, replicate, length-replicate}
 use lib.Seq.{getD-set-same, getD-set-other}
+use Rattle.base.specs.Listed.{only-at}
 use Rattle.memo.specs.declared.memo.Memo.{Memo}
 use Rattle.memo.specs.declared.memo.Known.{Known}
 use Rattle.memo.specs.declared.memo.Known.the-variants.{Value, Nothing}
@@ -95,16 +96,11 @@ recalled-set force (s ∷ w ∷ ws) (suc k) v h =
 pub begun-new : (ws : List ℕ) (n : ℕ) (m : Memo) → ws ≡ replicate n 0 → m .stamp ≡ 1 → Remembers ws m × (recall ws m ≡ replicate (n / 2) none)
 unfolding recall
 begun-new ws n m e f =
-    let zeros : (i : ℕ) → _≡_ {A = ℕ} (getD ws i 0) 0 = λ i. ap (λ (l : List ℕ). getD l i 0) e ∙ all-zero n i in
+    let zeros : (i : ℕ) → _≡_ {A = ℕ} (getD ws i 0) 0 = λ i. ap (λ (l : List ℕ). getD l i 0) e ∙ only-at 0 n i in
     let one : 1 ≡ m .stamp = sym f in (
       record { begun = omega arith; past = λ i. omega (arith, zeros (2 * i)) },
       recalled-none (m .stamp) ws (λ i. omega (arith, zeros (2 * i))) ∙ ap (λ (k : ℕ). replicate (k / 2) none) (ap length e ∙ length-replicate n 0),
     )
-  where
-    all-zero : (n i : ℕ) → _≡_ {A = ℕ} (getD (replicate n 0) i 0) 0
-    all-zero zero i = refl
-    all-zero (suc n) zero = refl
-    all-zero (suc n) (suc i) = all-zero n i
 
 pub cleared : (ws : List ℕ) (m m′ : Memo) → Remembers ws m → m′ .stamp ≡ m .stamp + 1 → Remembers ws m′ × (recall ws m′ ≡ replicate (length (recall ws m)) none)
 unfolding recall

@@ -1,2 +1,3 @@
 // Memos: maps by dense numbers that clear at once.
 pub mod memo;
+pub mod part;

@@ -32,7 +32,6 @@ use Rattle.graph.specs.declared.graph.Graph.{Graph as Counts}
 use Rattle.graph.specs.Cells.{Shows, nodes-few, shows-rows}
 use Rattle.graph.specs.Pushes.{cells-shown}
 use Rattle.table.specs.declared.words.Table.{Table}
-use Rattle.root.specs.declared.root.Resolved.{Resolved}
 use Rattle.root.specs.declared.root.Resolved.the-variants as read
 use Rattle.table.specs.Words.{valuesAt, numbersAt, tableEnd, tableIn, Grounded, Lies, Holding, Ready}
 use Rattle.table.specs.Kept.{lifts-on}

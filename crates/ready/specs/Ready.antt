@@ -12,8 +12,10 @@ use Rattle.definition.specs.Run.{outcome}
 use Rattle.definition.specs.Keys.{keyed as keysOf}
 use Rattle.definition.specs.Classes.{Built, makeClasses, buildClasses}
 use Rattle.definition.specs.declared.Refusal.the-variants as refusals
+use Rattle.base.specs.Part.{part}
 use Rattle.base.specs.Outside.{Outside}
 use Rattle.base.specs.Upto.{Upto, upto-then, upto-outside}
+use Rattle.memo.specs.Lent.{Clears}
 use Rattle.memo.specs.declared.memo.Memo.{Memo}
 use Rattle.store.specs.declared.nodes.Store.{Store}
 use Rattle.catalog.specs.Whole.{recordsOf, records-few}
@@ -39,7 +41,7 @@ use Rattle.table.specs.Kept.{lifts-on}
 use Rattle.rows.specs.Rows.{rows-none}
 use Rattle.rows.specs.Standing.{Standing, liftedOf}
 use Rattle.ready.specs.Places.{keyingOf, Roomy, Places}
-use Rattle.ready.specs.Tables.{Indexable, StoreBegun, MemoBegun}
+use Rattle.ready.specs.Tables.{Indexable, StoreBegun}
 use Rattle.ready.specs.declared.ready.Ready.{Ready}
 use Rattle.ready.specs.declared.ready.Ready.the-variants as answers
 
@@ -146,7 +148,7 @@ module _ (bytes work class words cells : List ℕ) (c : Catalog) (O : Opened byt
 
     -- ---- the steps are keyed, the store and the memo begun
     module _ (work₁ work₂ work₃ class₁ : List ℕ) (r : Counts) (st : Store) (memo : Memo) (K : KeyedWork bytes work₁ class₁ c k r) (F : Outside (k .at) (endOf k) work work₁)
-        (G : Outside 0 (length (recordsOf work c 4)) class class₁) (S : StoreBegun work₁ work₂ words l st) (M : MemoBegun work₂ work₃ l memo) where
+        (G : Outside 0 (length (recordsOf work c 4)) class class₁) (S : StoreBegun work₁ work₂ words l st) (M : Clears work₂ work₃ (l .copied) (l .walk) memo) where
       -- the tables are as they were
       tables-first : Same work work₁ c
       tables-first = upto-same (k .at) work work₁ c (upto-outside (k .at) (k .at) (endOf k) work work₁ (omega arith) F) (omega (arith, at-same))
@@ -154,7 +156,7 @@ module _ (bytes work class words cells : List ℕ) (c : Catalog) (O : Opened byt
       -- and the keys as they were written
       keys-stay : Upto (endOf k) work₁ work₃
       keys-stay = upto-then (endOf k) work₁ work₂ work₃ (upto-outside (endOf k) (l .lifted) (l .copied) work₁ work₂ (omega (arith, D .placed .behind, D .placed .rows)) (S .frame))
-          (upto-outside (endOf k) (l .copied) (l .walk) work₂ work₃ (omega (arith, D .placed .behind, D .placed .rows, D .index)) (M .frame))
+          (upto-outside (endOf k) (l .copied) (l .walk) work₂ work₃ (omega (arith, D .placed .behind, D .placed .rows, D .index)) (M .outside))
 
       tables-last : Same work₁ work₃ c
       tables-last = upto-same (endOf k) work₁ work₃ c keys-stay (omega (arith, at-same))
@@ -163,6 +165,7 @@ module _ (bytes work class words cells : List ℕ) (c : Catalog) (O : Opened byt
       many = D .nodes ∙ f ∙ ap length (sym (same-records work work₁ c tables-first (O .held .cataloged .fits) 3 (omega arith)))
 
       pub ready-on : Readies bytes work class words cells work₃ class₁ c (answers.On k l r st memo)
+      unfolding part
       ready-on = (starts, G)
         where
           starts : OfHeld bytes work c (Starts bytes class words cells work₃ class₁ c k l r st memo)
@@ -176,7 +179,7 @@ module _ (bytes work class words cells : List ℕ) (c : Catalog) (O : Opened byt
                   reads = reads-on bytes work₁ work₃ c tables-last (H₁ .cataloged) P R₁;
                   proper = Q;
                   placed = record { behind = D .placed .behind; rows = D .placed .rows; laid = laid-on work work₃ words cells l (keys-stay .long ∙ F .long) (D .placed .laid) };
-                  lifts = lifts-on bytes work₂ words c (liftedOf l) st work₃ (M .frame .long) (λ i h. M .frame .ahead i h) (S .lifts bytes c H₁ (omega (arith, at-same, D .placed .behind, D .placed .rows)) many);
+                  lifts = lifts-on bytes work₂ words c (liftedOf l) st work₃ (M .outside .long) (λ i h. M .outside .ahead i h) (S .lifts bytes c H₁ (omega (arith, at-same, D .placed .behind, D .placed .rows)) many);
                   store = S .none;
                   patterns = subst Patterns (sym (S .none)) patterns-none;
                   numbers = subst (VariablesBelow (length cells + 16)) (sym (S .none)) (variables-none (length cells + 16));

@@ -1,4 +1,4 @@
--- The store and the memo as they begin, in their parts of work.
+-- The store as it begins, in its part of work.
 use mathlib.Core.Path.{_≡_, sym, ap, _∙_, subst}
 use mathlib.Core.List.{List, []}
 use Prim.Native.Nat.{ℕ, _+_, _*_, _-_, _/_, _≤_, _<_}
@@ -7,15 +7,13 @@ use lib.ListN.{length}
 use Rattle.base.specs.Part.{put, length-part, part-put}
 use Rattle.base.specs.Outside.{Outside, outside-put}
 use Rattle.store.specs.Stored.{Stored, nodes, Enough}
-use Rattle.memo.specs.Recall.{Remembers}
-use Rattle.memo.specs.declared.memo.Memo.{Memo}
 use Rattle.store.specs.declared.nodes.Store.{Store}
 use Rattle.catalog.specs.Whole.{recordsOf}
 use Rattle.catalog.specs.Same.{Same, same-records, endOf as tablesEnd}
 use Rattle.catalog.specs.declared.whole.Catalog.{Catalog}
 use Rattle.pack.specs.Held.{Held, held-on}
 use Rattle.lift.specs.Lifts.{Lifts, Clears}
-use Rattle.premise.specs.Layout.{indexIn, memoIn}
+use Rattle.premise.specs.Layout.{indexIn}
 use Rattle.premise.specs.declared.layout.Layout.{Layout}
 use Rattle.rows.specs.Standing.{liftedOf}
 
@@ -69,21 +67,3 @@ module _ (work words : List ℕ) (l : Layout) (X : Indexable work words l) where
               index = subst (λ (xs : List ℕ). Stored xs words st) (sym (part-put at many work fit idx long)) S;
             });
       }
-
--- ---- the memo
--- what `begin_memo` answers
-pub record MemoBegun (work work′ : List ℕ) (l : Layout) (m : Memo) : Type 0 where
-  pub frame : Outside (l .copied) (l .walk) work work′
-  pub remembers : Remembers (memoIn work′ l) m
-
--- the memo's words came back
-pub memo-begun : (work table : List ℕ) (l : Layout) (m : Memo) → l .copied ≤ l .walk → l .walk ≤ length work → length table ≡ length (memoIn work l) → Remembers table m
-    → MemoBegun work (put (l .copied) (l .walk - l .copied) table work) l m
-memo-begun work table l m h inside e R =
-    let fit : l .copied + (l .walk - l .copied) ≤ length work = omega arith in
-    let long : length table ≡ l .walk - l .copied = e ∙ length-part (l .copied) (l .walk - l .copied) work fit in
-    let end : l .copied + (l .walk - l .copied) ≡ l .walk = omega arith in
-    record {
-      frame = subst (λ (i : ℕ). Outside (l .copied) i work (put (l .copied) (l .walk - l .copied) table work)) end (outside-put (l .copied) (l .walk - l .copied) work table fit long);
-      remembers = subst (λ (xs : List ℕ). Remembers xs m) (sym (part-put (l .copied) (l .walk - l .copied) work fit table long)) R;
-    }

@@ -1,13 +1,13 @@
 // The steps' classes, and all tables without entries.
 use crate::places::keying;
 use crate::places::layout;
-use crate::tables::begin_memo;
 use crate::tables::begin_store;
 use catalog::whole::Catalog;
 use key::classes::Counts;
 use key::classes::Keying;
 use keys::steps::key_steps;
 use memo::memo::Memo;
+use memo::part::begin;
 use premise::layout::Layout;
 use store::nodes::Store;
 ghost use Rattle.ready.specs.Ready.{Opened, Readies};
@@ -38,6 +38,6 @@ pub fn make_ready(
     let l = layout(work, words, cells, k, nodes);
     let r = key_steps(pack, work, class, c, k);
     let st = begin_store(work, words, l);
-    let memo = begin_memo(work, l);
+    let memo = begin(work, l.copied, l.walk);
     Ready::On(k, l, r, st, memo)
 }

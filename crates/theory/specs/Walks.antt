@@ -16,3 +16,5 @@ pub mod Valuing
 pub mod Matching
 pub mod MatchTurns
 pub mod Matched
+pub mod Stands
+pub mod Reaching

@@ -1,12 +1,13 @@
 -- The call that copies a pattern: what its steps ask and answer.
-use mathlib.Core.Path.{_≡_, refl, sym, ap, ap₂, subst, _∙_}
-use mathlib.Core.Bool.{true, false, _||_}
+use mathlib.Core.Path.{_≡_, sym, ap, ap₂, subst, _∙_}
+use mathlib.Core.Bool.{true, _||_}
 use mathlib.Core.List.{List}
 use Prim.Native.Nat.{ℕ, _+_, _*_, _/_, _≤_, _<_}
 use native.Mathlib.Omega.{arith}
 use borrow.Author.Tests.{le-leb, lt-leb, eq-eqb, ne-eqb, lt-ltb, le-ltb}
 use lib.Dec.{eqb}
 use lib.ListN.{length}
+use Rattle.definition.specs.Test.{or-right}
 use Rattle.definition.specs.Pack.{Pack}
 use Rattle.definition.specs.Frame.{fine}
 use Rattle.definition.specs.Parse.{parse}
@@ -95,11 +96,7 @@ module _ (bytes work words cells : List ℕ) (c : Catalog) (l : Lifted) (t : Tab
 
   -- there is none
   pub uncopied : copies ≡ 0 → (eqb read 0 || eqb copies 0) ≡ true
-  uncopied e = or-true (eqb read 0) (eq-eqb copies 0 e)
-    where
-      or-true : (b : _) → eqb copies 0 ≡ true → (b || eqb copies 0) ≡ true
-      or-true true f = refl
-      or-true false f = f
+  uncopied e = or-right (eqb read 0) (eqb copies 0) (eq-eqb copies 0 e)
 
   -- it is read
   pub last-read : (read ≡ 0 → ⊥) → (copies ≡ 0 → ⊥) → (words′ : List ℕ) (w : Walk) → Backs bytes work words words′ cells c l t st g x w → Lasts bytes work words words′ cells c l t st g x copies read w

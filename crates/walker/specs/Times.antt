@@ -12,6 +12,7 @@ use Rattle.base.specs.Part.{part, put, part-same, length-part, length-put, part
 use Rattle.base.specs.declared.id.Node.{Node as Id}
 use Rattle.store.specs.Stored.{Stored, nodes}
 use Rattle.memo.specs.Recall.{Remembers}
+use Rattle.memo.specs.Lent.{Clears}
 use Rattle.store.specs.declared.nodes.Store.{Store}
 use Rattle.memo.specs.declared.memo.Memo.{Memo}
 use Rattle.graph.specs.declared.graph.Graph.{Graph as Counts}
@@ -27,12 +28,6 @@ use Rattle.walker.specs.Copies.{copiedTimes}
 use Rattle.walker.specs.Plain.{Plain, plain-none, plain-inner, copy-plain, copy-inside, copy-grows}
 
 -- ---- what is asked and answered
--- a memo without entries
-pub record NewMemo (work work′ : List ℕ) (l : Copying) (m : Memo) : Type 0 where
-  pub long : length work′ ≡ length work
-  pub remembers : Remembers (tableIn work′ l) m
-  pub ahead : (i : ℕ) → i < l .copied → getD work′ i 0 ≡ getD work i 0
-
 -- a graph without nodes
 pub record NewGraph (work work′ cells : List ℕ) (l : Copying) (g : Counts) : Type 0 where
   pub long : length work′ ≡ length work
@@ -67,19 +62,6 @@ Timed before work words cells₀ cells flex l st p n (Made x g) = (memo : Memo) 
 Timed before work words cells₀ cells flex l st p n Short = length cells₀ < cellsOf (timesOf words flex st p n .graph)
 
 -- ---- the beginning
--- the memo's table came back
-pub new-memo : (work : List ℕ) (l : Copying) → l .copied ≤ l .walk → l .walk ≤ length work → (table : List ℕ) → length table ≡ length (take (l .walk - l .copied) (drop (l .copied) work)) → (m : Memo) → Remembers table m
-    → NewMemo work (put (l .copied) (l .walk - l .copied) table work) l m
-unfolding part
-new-memo work l h k table n m R =
-    let fits : l .copied + (l .walk - l .copied) ≤ length work = omega arith in
-    let long : length table ≡ l .walk - l .copied = n ∙ length-part (l .copied) (l .walk - l .copied) work fits in
-    record {
-      long = length-put (l .copied) (l .walk - l .copied) work fits table long;
-      remembers = subst (λ (t : List ℕ). Remembers t m) (sym (part-put (l .copied) (l .walk - l .copied) work fits table long)) R;
-      ahead = λ i a. put-before (l .copied) (l .walk - l .copied) work fits table long i a;
-    }
-
 -- the graph's table came back
 pub new-graph : (work cells : List ℕ) (l : Copying) → l .graph ≤ l .end → l .end ≤ length work → (table : List ℕ) → length table ≡ length (take (l .end - l .graph) (drop (l .graph) work)) → (g : Counts) → Shows cells table g []
     → NewGraph work (put (l .graph) (l .end - l .graph) table work) cells l g
@@ -95,19 +77,19 @@ new-graph work cells l h k table n g S =
 
 module _ (before words cells₀ flex : List ℕ) (l : Copying) (st : Store) (p : ℕ) (A : Started before words cells₀ flex l st p) where
   -- ahead of the first
-  module _ (work₁ work₂ : List ℕ) (memo : Memo) (g : Counts) (M : NewMemo before work₁ l memo) (G : NewGraph work₁ work₂ cells₀ l g) where
+  module _ (work₁ work₂ : List ℕ) (memo : Memo) (g : Counts) (M : Clears before work₁ (l .copied) (l .walk) memo) (G : NewGraph work₁ work₂ cells₀ l g) where
     -- nothing ahead of the memo has changed
     none-ahead : (j : ℕ) → j < l .copied → getD work₂ j 0 ≡ getD before j 0
-    none-ahead j h = let L = A .laid in G .ahead j (omega (arith, L .table, L .stack, L .marks)) ∙ M .ahead j h
+    none-ahead j h = let L = A .laid in G .ahead j (omega (arith, L .table, L .stack, L .marks)) ∙ M .outside .ahead j h
 
     -- all stands as it stood
     pub started-on : Started work₂ words cells₀ flex l st p
     started-on =
         let L = A .laid in
         let fits : l .copied ≤ length before = omega (arith, L .table, L .stack, L .marks, L .rows, L .inside) in
-        let same : indexIn work₂ l ≡ indexIn before l = part-same (l .index) (l .copied - l .index) work₂ before (omega (arith, L .index, fits, G .long, M .long)) (omega (arith, L .index, fits)) (λ j h. none-ahead (l .index + j) (omega arith)) in
+        let same : indexIn work₂ l ≡ indexIn before l = part-same (l .index) (l .copied - l .index) work₂ before (omega (arith, L .index, fits, G .long, M .outside .long)) (omega (arith, L .index, fits)) (λ j h. none-ahead (l .index + j) (omega arith)) in
         record {
-          laid = record { index = L .index; table = L .table; stack = L .stack; marks = L .marks; rows = L .rows; inside = omega (arith, L .inside, G .long, M .long) };
+          laid = record { index = L .index; table = L .table; stack = L .stack; marks = L .marks; rows = L .rows; inside = omega (arith, L .inside, G .long, M .outside .long) };
           stored = subst (λ (xs : List ℕ). Stored xs words st) (sym same) (A .stored);
           patterns = A .patterns;
           small = A .small;
@@ -116,10 +98,10 @@ module _ (before words cells₀ flex : List ℕ) (l : Copying) (st : Store) (p :
 
     -- with no copy
     pub timing-none : Timing work₂ work₂ words cells₀ cells₀ flex l st memo g p 0 0
-    unfolding copiedTimes
+    unfolding copiedTimes part
     timing-none =
         let L = A .laid in
-        let same : tableIn work₂ l ≡ tableIn work₁ l = part-same (l .copied) (l .walk - l .copied) work₂ work₁ (omega (arith, L .table, L .stack, L .marks, L .rows, L .inside, G .long, M .long)) (omega (arith, L .table, L .stack, L .marks, L .rows, L .inside, M .long)) (λ i h. G .ahead (l .copied + i) (omega (arith, L .table, L .stack, L .marks))) in
+        let same : tableIn work₂ l ≡ tableIn work₁ l = part-same (l .copied) (l .walk - l .copied) work₂ work₁ (omega (arith, L .table, L .stack, L .marks, L .rows, L .inside, G .long, M .outside .long)) (omega (arith, L .table, L .stack, L .marks, L .rows, L .inside, M .outside .long)) (λ i h. G .ahead (l .copied + i) (omega (arith, L .table, L .stack, L .marks))) in
         record {
           long = refl;
           many = refl;
@@ -135,7 +117,7 @@ module _ (before words cells₀ flex : List ℕ) (l : Copying) (st : Store) (p :
     timed-from work′ cells′ i n e x memo′ g′ T = rw (← e) (
       memo′,
       record {
-        long = T .long ∙ G .long ∙ M .long;
+        long = T .long ∙ G .long ∙ M .outside .long;
         many = T .many;
         ahead = λ j h. T .ahead j h ∙ none-ahead j h;
         remembers = T .remembers;

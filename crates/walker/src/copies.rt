@@ -11,7 +11,7 @@ use copy::walk::copy;
 use fresh::node::Copying;
 use graph::graph::Graph;
 use lift::walk::Lifted;
-use memo::memo::Memo;
+use memo::part::begin;
 use readback::answer::Walk;
 use readback::answer::Walked;
 use readback::answer::leave;
@@ -31,23 +31,13 @@ ghost use Rattle.readback.specs.Came.{Left, lentTo, opened};
 ghost use Rattle.readback.specs.Walks.{Walks};
 ghost use Rattle.readback.specs.Places.{Opened};
 ghost use Rattle.walker.specs.Copies.{packCopied, copyLeaves};
-ghost use Rattle.walker.specs.Times.{NewMemo, NewGraph, Started, Timed};
+ghost use Rattle.walker.specs.Times.{NewGraph, Started, Timed};
 ghost use Rattle.walker.specs.CopyCalls.{copyingOf, Small, Last, Lasts, Copyable, Copied as Copies, Stocked, FromStock, Marked, FromList, FromPack};
 
 // The last copy's node and the graph, or that the cells have no room.
 pub enum Times {
     Made(Node, Graph),
     Short,
-}
-
-// A memo without entries.
-fn new_memo(work: &mut [u32], l: Copying) -> Memo
-    requires { ⌜ (l .copied ≤ l .walk) × (l .walk ≤ length (now work)) ⌝ }
-    ensures { λ r. ⌜ NewMemo (now (work .entry)) (now (work .exit)) l r ⌝ }
-{
-    let from = l.copied;
-    let to = l.walk;
-    Memo::new(&mut work[from..to])
 }
 
 // A graph without nodes.
@@ -74,7 +64,7 @@ fn copy_times(
     requires { ⌜ Started (now work) (now words) (now cells) (now flex) l st (p .0) ⌝ }
     ensures { λ r. ⌜ Timed (now (work .entry)) (now (work .exit)) (now (words .entry)) (now (cells .entry)) (now (cells .exit)) (now (flex .entry)) l st (p .0) copies r ⌝ }
 {
-    let mut memo = new_memo(work, l);
+    let mut memo = begin(work, l.copied, l.walk);
     let mut g = new_graph(work, cells, l);
     let mut last = Node(0);
     let mut i: u64 = 0;

@@ -9,8 +9,10 @@ mod classes;
 mod classes_pace;
 #[cfg(feature = "original")]
 mod clock;
+mod counts;
 mod drawn_packs;
 mod edits;
+mod families;
 mod forms;
 #[cfg(feature = "original")]
 mod intern;
@@ -18,11 +20,13 @@ mod intern;
 mod joints;
 #[cfg(feature = "original")]
 mod keys;
+mod kinds;
 mod limits;
 mod numbers;
 mod ours;
 mod pace;
 mod plain;
+mod printed;
 mod read;
 mod reads;
 mod recorded;
@@ -84,9 +88,9 @@ bench: the library beside the Rust original
                           steps, in the library and in the original
   bench classes --times --quick
                           up to 10,000 steps and fewer rounds, for tests
-  bench unify             unify written pairs of terms and drawn ones in the library;
-                          check what comes back beside a plain unifier, and beside the
-                          original where it is in the build
+  bench unify             unify printed sets of terms and drawn pairs in the library; check
+                          what comes back beside Robinson's algorithm or a plain
+                          unifier, and beside the original where it is in the build
   bench unify --times     time the unification of generated terms, of up to 400,000
                           levels, in the library and in the original
   bench unify --times --quick
@@ -97,6 +101,9 @@ bench: the library beside the Rust original
                           library and in the original
   bench walk --times --quick
                           smaller patterns and fewer rounds, for tests
+  bench counts            count the instructions that unifying, copying and reading back take
+                          in the library, by valgrind, on terms of one size and of four
+                          times that
   bench --help            this page
 
 `bench intern` and all `--times` want a build with the feature `original`.
@@ -105,9 +112,9 @@ reading a byte of a largest pack takes over 3 times as long as one of a smallest
 `bench check` or `bench classes --times` in which a step takes over 5 times as long, a full
 `bench classes --times` in which the largest takes longer than in the original, a full
 `bench unify --times` or `bench walk --times` in which four times the size takes over 5
-times as long, or a full `bench walk --times` in which a node of a largest pattern takes
-over 5 times as long as one of a smallest, said in one line on standard error; 2 a wrong
-call.
+times as long from each size to the next, a full `bench walk --times` in which a node of a largest pattern takes over
+5 times as long as one of a smallest, or `bench counts` in which four times the size takes
+over 5 times as many instructions, said in one line on standard error; 2 a wrong call.
 ";
 
 fn main() -> ExitCode {
@@ -135,6 +142,8 @@ fn run(args: &[&str]) -> Result<String, Fault> {
         ["walk"] => Ok(walk::check()?),
         ["walk", "--times"] => beside("walk --times", false),
         ["walk", "--times", "--quick"] => beside("walk --times", true),
+        ["counts"] => Ok(counts::report()?),
+        ["counts", "--one", what, kind, numbers @ ..] => Ok(counts::one(what, kind, numbers)?),
         _ => Err(cli::unknown(args)),
     }
 }

@@ -1,7 +1,7 @@
-//! The library's unification alone: examples, published ones among them, drawn terms beside a plain
-//! recursive unifier and, in a build that has it, the original's; and calls that it refuses.
+//! The library's unification alone: printed examples, drawn terms beside a plain recursive unifier and, in a build that has it, the original's; and calls that it refuses.
 use crate::numbers::Numbers;
 use crate::ours::zeros;
+use crate::printed;
 use std::collections::HashMap;
 
 /// What a call says: 0 joined, 1 a clash, 2 no such list or no such node, 3 lengths; how
@@ -11,11 +11,11 @@ use std::collections::HashMap;
 pub struct Unification {
     pub code: u64,
     taken: u64,
-    circular: u64,
+    pub circular: u64,
 }
 
 pub const JOINED: u64 = 0;
-const CLASH: u64 = 1;
+pub const CLASH: u64 = 1;
 const LIST: u64 = 2;
 const LENGTHS: u64 = 3;
 
@@ -47,7 +47,7 @@ pub enum Node {
     App(u32, Vec<u32>),
 }
 
-const FREE: Node = Node::Var {
+pub const FREE: Node = Node::Var {
     flex: false,
     rigid: false,
 };
@@ -156,221 +156,18 @@ fn call_at(
     Ok((answer, lent.roots))
 }
 
-fn call(terms: &[u32], x: u64, y: u64, lent: Lent) -> Result<(Unification, Vec<u32>), String> {
+pub fn call(terms: &[u32], x: u64, y: u64, lent: Lent) -> Result<(Unification, Vec<u32>), String> {
     call_at(terms, x, y, WHOLE, lent)
 }
 
 pub fn check() -> Result<String, String> {
-    let examples = written()?;
+    let examples = printed::check()?;
     shared()?;
     refusals()?;
     let drawn = drawn()?;
     Ok(format!(
-        "{examples} written pairs and {drawn} drawn ones unified\n"
+        "{examples} written sets of terms and {drawn} drawn pairs unified\n"
     ))
-}
-
-/// Two terms as printed, and what becomes of them.
-struct Example {
-    left: &'static str,
-    right: &'static str,
-    outcome: Outcome,
-}
-
-/// The values of variables, that there are none, or that some have no end.
-enum Outcome {
-    Joined(&'static [(&'static str, &'static str)]),
-    Clash,
-    Circle,
-}
-use Outcome::{Circle, Clash, Joined};
-
-/// Of Robinson, A Machine-Oriented Logic Based on the Resolution Principle (1965): the set
-/// whose most general unifier is worked out and, by twos, the three of the disagreement set
-/// (section 5), and the two clauses whose refutation no search of Herbrand's levels would find
-/// (section 4), with their variables apart and, as he writes them, with one name in both; two of
-/// Chang and Lee, Symbolic Logic and Mechanical Theorem Proving (1973), on unification; the one
-/// of Martelli and Montanari, An Efficient Unification Algorithm (1982); and pairs that only
-/// Robinson's test of a variable inside its own term tells apart. All are cited from memory; the
-/// texts were not at hand.
-const EXAMPLES: [Example; 12] = [
-    Example {
-        left: "P(a,x,h(g(z)))",
-        right: "P(z,h(y),h(y))",
-        outcome: Joined(&[("z", "a"), ("x", "h(g(a))"), ("y", "g(a)")]),
-    },
-    Example {
-        left: "P(x,h(x,y),y)",
-        right: "P(x,k(y),y)",
-        outcome: Clash,
-    },
-    Example {
-        left: "P(x,h(x,y),y)",
-        right: "P(x,a,b)",
-        outcome: Clash,
-    },
-    Example {
-        left: "P(x,k(y),y)",
-        right: "P(x,a,b)",
-        outcome: Clash,
-    },
-    Example {
-        left: "Q(x,g(x),y,h(x,y),z,k(x,y,z))",
-        right: "Q(u,v,e(v),w,f(v,w),x2)",
-        outcome: Joined(&[
-            ("x", "u"),
-            ("v", "g(u)"),
-            ("y", "e(g(u))"),
-            ("w", "h(u,e(g(u)))"),
-            ("z", "f(g(u),h(u,e(g(u))))"),
-            ("x2", "k(u,e(g(u)),f(g(u),h(u,e(g(u)))))"),
-        ]),
-    },
-    Example {
-        left: "Q(x,g(x),y,h(x,y),z,k(x,y,z))",
-        right: "Q(u,v,e(v),w,f(v,w),x)",
-        outcome: Circle,
-    },
-    Example {
-        left: "P(a,x,f(g(y)))",
-        right: "P(z,f(z),f(u))",
-        outcome: Joined(&[("z", "a"), ("x", "f(a)"), ("u", "g(y)")]),
-    },
-    Example {
-        left: "Q(f(a),g(x))",
-        right: "Q(y,y)",
-        outcome: Clash,
-    },
-    Example {
-        left: "f(x1,g(x2,x3),x2,b)",
-        right: "f(g(h(a,x5),x2),x1,h(a,x4),x4)",
-        outcome: Joined(&[
-            ("x1", "g(h(a,b),h(a,b))"),
-            ("x2", "h(a,b)"),
-            ("x3", "h(a,b)"),
-            ("x4", "b"),
-            ("x5", "b"),
-        ]),
-    },
-    Example {
-        left: "P(x,x)",
-        right: "P(y,f(y))",
-        outcome: Circle,
-    },
-    Example {
-        left: "P(x,f(y))",
-        right: "P(f(y),x)",
-        outcome: Joined(&[("x", "f(y)")]),
-    },
-    Example {
-        left: "P(x,y)",
-        right: "P(f(y),f(x))",
-        outcome: Circle,
-    },
-];
-
-/// Nodes of printed terms: a name that starts with u to z is a variable.
-#[derive(Default)]
-struct Printed {
-    nodes: Vec<Node>,
-    heads: Vec<String>,
-    variables: HashMap<String, u32>,
-}
-
-impl Printed {
-    fn push(&mut self, node: Node) -> u32 {
-        self.nodes.push(node);
-        self.nodes.len() as u32 - 1
-    }
-
-    fn head(&mut self, name: &str) -> u32 {
-        let at = self.heads.iter().position(|head| head == name);
-        at.unwrap_or_else(|| {
-            self.heads.push(name.into());
-            self.heads.len() - 1
-        }) as u32
-    }
-
-    /// The term ahead in `text`, which is left behind it.
-    fn term(&mut self, text: &mut &str) -> u32 {
-        let end = text.find(['(', ')', ',']).unwrap_or(text.len());
-        let name = &text[..end];
-        *text = &text[end..];
-        if name.starts_with(['u', 'v', 'w', 'x', 'y', 'z']) {
-            if let Some(&node) = self.variables.get(name) {
-                return node;
-            }
-            let node = self.push(FREE);
-            self.variables.insert(name.into(), node);
-            return node;
-        }
-        let mut args = Vec::new();
-        while text.starts_with(['(', ',']) && (args.is_empty() == text.starts_with('(')) {
-            *text = &text[1..];
-            args.push(self.term(text));
-        }
-        if !args.is_empty() {
-            *text = &text[1..];
-        }
-        let head = self.head(name);
-        self.push(Node::App(head, args))
-    }
-
-    /// A node's term, along the roots.
-    fn show(&self, roots: &[u32], node: u32) -> String {
-        let root = roots[node as usize];
-        match &self.nodes[root as usize] {
-            Node::Var { .. } => {
-                let name = self.variables.iter().find(|(_, v)| **v == root);
-                name.map_or("?".into(), |(name, _)| name.clone())
-            }
-            Node::App(head, args) => {
-                let head = &self.heads[*head as usize];
-                if args.is_empty() {
-                    return head.clone();
-                }
-                let args: Vec<String> = args.iter().map(|&a| self.show(roots, a)).collect();
-                format!("{head}({})", args.join(","))
-            }
-        }
-    }
-}
-
-fn written() -> Result<usize, String> {
-    for example in &EXAMPLES {
-        let at = |why: String| format!("{} and {}: {why}", example.left, example.right);
-        let mut terms = Printed::default();
-        let x = terms.term(&mut &*example.left);
-        let y = terms.term(&mut &*example.right);
-        let (answer, roots) = call(
-            &words(&terms.nodes),
-            x.into(),
-            y.into(),
-            Lent::exact(&terms.nodes),
-        )
-        .map_err(at)?;
-        let wanted = match example.outcome {
-            Joined(_) => (JOINED, 0),
-            Clash => (CLASH, 0),
-            Circle => (JOINED, 1),
-        };
-        if (answer.code, answer.circular) != wanted {
-            return Err(at(format!("{answer:?}")));
-        }
-        if let Joined(values) = example.outcome {
-            for &(name, value) in values {
-                let shown = terms.show(&roots, terms.variables[name]);
-                if shown != value {
-                    return Err(at(format!("{name} is {shown}, not {value}")));
-                }
-            }
-            if terms.show(&roots, x) != terms.show(&roots, y) {
-                return Err(at("the two terms differ".into()));
-            }
-        }
-        agree(&terms.nodes, x, y).map_err(at)?;
-    }
-    Ok(EXAMPLES.len())
 }
 
 /// Terms that double with each variable: h(x1,..,xn,f(y0,y0),..,yn) and
@@ -464,7 +261,7 @@ impl Plain<'_> {
 }
 
 /// The library's answer is the plain unifier's, and the original's.
-fn agree(nodes: &[Node], x: u32, y: u32) -> Result<(), String> {
+pub fn agree(nodes: &[Node], x: u32, y: u32) -> Result<(), String> {
     let (answer, roots) = call(&words(nodes), x.into(), y.into(), Lent::exact(nodes))?;
     let class = (0..nodes.len() as u32).collect();
     let mut plain = Plain { nodes, class };

@@ -1,49 +1,16 @@
 //! The speed of the library's unification beside the original's, on terms of four kinds.
 use crate::generalize::door;
+use crate::kinds::{KINDS, Kind};
 use crate::numbers::judged;
-use crate::unify::{Buffers, JOINED, Lent, Node, READ, UNIFY, words};
+use crate::unify::{Buffers, JOINED, Lent, READ, UNIFY, words};
 use std::fmt::Write as _;
 use std::time::Instant;
 
-/// Each is four times the one before it: unification that is linear takes four times as long,
-/// and may take five from the middle one to the last. The first one's words fit a cache of
-/// 2 MB, which shows in the growth from it.
+/// Each is four times the one before it: unification that is linear takes four times as long. From
+/// one of them to the next it may take more than five, where a cache ends between the two; not
+/// each time. `bench counts` says how much work it is, whatever the caches.
 const SIZES: [usize; 3] = [25_000, 100_000, 400_000];
 const MOST_GROWTH: f64 = 5.0;
-
-const F: u32 = 0;
-const G: u32 = 1;
-const A: u32 = 2;
-
-struct Kind {
-    name: &'static str,
-    what: &'static str,
-    /// Nodes of about that size, and the two to unify.
-    make: fn(usize) -> (Vec<Node>, u32, u32),
-}
-
-const KINDS: [Kind; 4] = [
-    Kind {
-        name: "deep",
-        what: "two terms of n levels, a variable and a constant at their ends",
-        make: deep,
-    },
-    Kind {
-        name: "wide",
-        what: "one head over n variables and over n constants",
-        make: wide,
-    },
-    Kind {
-        name: "chain",
-        what: "n variables bound one to the next, then the first to a constant",
-        make: chain,
-    },
-    Kind {
-        name: "double",
-        what: "terms of 40 doublings, two beside two, n / 40 times",
-        make: double,
-    },
-];
 
 const NOTES: &str = "
 Nanoseconds a level, argument, binding or doubling, by the least times over the rounds,
@@ -95,7 +62,7 @@ pub fn report(quick: bool) -> Result<String, String> {
     let slow = growth(&rows, &mut out);
     let grown = (!slow.is_empty()).then(|| {
         format!(
-            "four times the size takes more than {MOST_GROWTH} times as long at last: {}",
+            "four times the size takes more than {MOST_GROWTH} times as long each time: {}",
             slow.join(", ")
         )
     });
@@ -103,7 +70,7 @@ pub fn report(quick: bool) -> Result<String, String> {
 }
 
 /// The time of each size over that of the size before it; answers the kinds that grow too much
-/// at last.
+/// each time.
 fn growth(rows: &[Row], out: &mut String) -> Vec<String> {
     let mut slow = Vec::new();
     let _ = writeln!(
@@ -112,21 +79,22 @@ fn growth(rows: &[Row], out: &mut String) -> Vec<String> {
         "kind", "size", "original", "ours"
     );
     for sizes in rows.chunks(SIZES.len()) {
-        let mut last = 0.0;
+        let mut least = f64::INFINITY;
         for pair in sizes.windows(2) {
             let [small, large] = pair else { continue };
             let times = large.size as f64 / small.size as f64;
-            last = times * large.ours / small.ours;
+            let ours = times * large.ours / small.ours;
+            least = least.min(ours);
             let _ = writeln!(
                 out,
-                "{:6} {:>7} {:>9.2} {last:>7.2}",
+                "{:6} {:>7} {:>9.2} {ours:>7.2}",
                 large.kind,
                 large.size,
                 times * large.original / small.original
             );
         }
-        if last.is_nan() || last > MOST_GROWTH {
-            slow.push(format!("{} {last:.2}", sizes[0].kind));
+        if least > MOST_GROWTH {
+            slow.push(format!("{} {least:.2}", sizes[0].kind));
         }
     }
     slow
@@ -166,69 +134,4 @@ fn measure(kind: &Kind, size: usize, rounds: usize) -> Result<Row, String> {
         ours: whole - idle,
         whole,
     })
-}
-
-fn var() -> Node {
-    Node::Var {
-        flex: false,
-        rigid: false,
-    }
-}
-
-/// A term of so many levels over a node.
-fn levels(nodes: &mut Vec<Node>, size: usize, end: Node) -> u32 {
-    nodes.push(end);
-    for _ in 0..size {
-        nodes.push(Node::App(G, vec![nodes.len() as u32 - 1]));
-    }
-    nodes.len() as u32 - 1
-}
-
-fn deep(size: usize) -> (Vec<Node>, u32, u32) {
-    let mut nodes = Vec::new();
-    let x = levels(&mut nodes, size, var());
-    let y = levels(&mut nodes, size, Node::App(A, Vec::new()));
-    (nodes, x, y)
-}
-
-fn wide(size: usize) -> (Vec<Node>, u32, u32) {
-    let mut nodes = vec![var(); size];
-    nodes.push(Node::App(A, Vec::new()));
-    let n = size as u32;
-    nodes.push(Node::App(F, (0..n).collect()));
-    nodes.push(Node::App(F, vec![n; size]));
-    (nodes, n + 1, n + 2)
-}
-
-fn chain(size: usize) -> (Vec<Node>, u32, u32) {
-    let mut nodes = vec![var(); size];
-    nodes.push(Node::App(A, Vec::new()));
-    let n = size as u32;
-    // The last arguments are taken first, so each variable is bound to the next, and the
-    // first one's chain is the longest; it meets the constant last of all.
-    nodes.push(Node::App(F, std::iter::once(0).chain(0..n - 1).collect()));
-    nodes.push(Node::App(F, std::iter::once(n).chain(1..n).collect()));
-    (nodes, n + 1, n + 2)
-}
-
-fn double(size: usize) -> (Vec<Node>, u32, u32) {
-    const DOUBLINGS: usize = 40;
-    let mut nodes = Vec::new();
-    let mut doubled = |end: Node| {
-        nodes.push(end);
-        for _ in 0..DOUBLINGS {
-            let last = nodes.len() as u32 - 1;
-            nodes.push(Node::App(F, vec![last, last]));
-        }
-        nodes.len() as u32 - 1
-    };
-    let (mut left, mut right) = (Vec::new(), Vec::new());
-    for _ in 0..size.div_ceil(DOUBLINGS) {
-        left.push(doubled(var()));
-        right.push(doubled(Node::App(A, Vec::new())));
-    }
-    let at = nodes.len() as u32;
-    nodes.push(Node::App(G, left));
-    nodes.push(Node::App(G, right));
-    (nodes, at, at + 1)
 }

@@ -137,6 +137,15 @@ pub struct Store {
 }
 
 impl Store {
+    /// A store of these nodes.
+    pub fn of(nodes: &[Vec<u32>]) -> Self {
+        let mut store = Store::default();
+        for node in nodes {
+            store.intern(node.clone());
+        }
+        store
+    }
+
     pub fn intern(&mut self, node: Vec<u32>) -> u32 {
         let next = self.nodes.len() as u32;
         let nodes = &mut self.nodes;

@@ -1,4 +1,5 @@
 //! `Analysis::copy` and `Analysis::resolve` of the original beside the library's `copy_pattern`.
+use crate::families::{FAMILIES, Family};
 use crate::generalize::door::Walker;
 use crate::numbers::judged;
 use crate::walk::{Asked, Lent, Store, VAR, Walked, words};
@@ -13,10 +14,12 @@ const COPIES: u64 = 4;
 const ROUND: usize = 100_000;
 /// The original's walks call themselves, as deep as the patterns are.
 const STACK: usize = 1 << 31;
-/// The sizes of a family, as multiples of its least.
-const TIMES: [usize; 3] = [1, 4, 40];
-/// Four times the size may take so many times as long, and a node of a largest pattern so many times
-/// as long as one of a smallest: that one's tables are larger than a cache.
+/// The sizes of a family, as multiples of its least; the second and the third are four times the one
+/// before.
+const TIMES: [usize; 4] = [1, 4, 16, 40];
+/// Four times the size may take so many times as long, unless a cache ends between the two sizes, so
+/// not both times; and a node of a largest pattern so many times as long as one of a smallest.
+/// `bench counts` says how much work it is, whatever the caches.
 const MOST: f64 = 5.0;
 
 const NOTES: &str = "
@@ -30,74 +33,6 @@ that walk 100,000 nodes or more.
   ratio     ours over original
   growth    the time of all nodes over that of the row of the size before it
 ";
-
-/// Patterns of some shape, by a number of parts.
-struct Family {
-    name: &'static str,
-    what: &'static str,
-    size: usize,
-    make: fn(usize) -> Vec<Vec<u32>>,
-}
-
-const FAMILIES: [Family; 3] = [
-    Family {
-        name: "deep",
-        what: "one argument a node, as many levels as nodes",
-        size: 2_500,
-        make: deep,
-    },
-    Family {
-        name: "wide",
-        what: "sixteen arguments a node over distinct variables",
-        size: 1_600,
-        make: wide,
-    },
-    Family {
-        name: "shared",
-        what: "forty doublings of a variable, many of them side by side",
-        size: 50,
-        make: shared,
-    },
-];
-
-fn deep(n: usize) -> Vec<Vec<u32>> {
-    let mut nodes = vec![vec![VAR, 0, 0]];
-    nodes.extend((0..n as u32).map(|i| vec![1, i]));
-    nodes
-}
-
-fn wide(n: usize) -> Vec<Vec<u32>> {
-    let mut nodes: Vec<Vec<u32>> = (0..n as u32).map(|k| vec![VAR, k, 0]).collect();
-    let level = (0..n as u32).collect();
-    join(&mut nodes, level);
-    nodes
-}
-
-fn shared(n: usize) -> Vec<Vec<u32>> {
-    let (mut nodes, mut tops) = (Vec::new(), Vec::new());
-    for k in 0..n as u32 {
-        nodes.push(vec![VAR, k, 0]);
-        for _ in 0..40 {
-            let last = nodes.len() as u32 - 1;
-            nodes.push(vec![2, last, last]);
-        }
-        tops.push(nodes.len() as u32 - 1);
-    }
-    join(&mut nodes, tops);
-    nodes
-}
-
-/// Nodes over sixteen of these at a time, until there is one.
-fn join(nodes: &mut Vec<Vec<u32>>, mut level: Vec<u32>) {
-    while level.len() > 1 {
-        let mut above = Vec::new();
-        for part in level.chunks(16) {
-            nodes.push([&[10 + part.len() as u32], part].concat());
-            above.push(nodes.len() as u32 - 1);
-        }
-        level = above;
-    }
-}
 
 /// Nanoseconds a node, of copying and of reading back.
 struct Side {
@@ -136,12 +71,8 @@ fn measure_all(quick: bool) -> Result<String, String> {
 
 fn measure(family: &Family, n: usize, rounds: usize) -> Result<Row, String> {
     let nodes = (family.make)(n);
-    let mut store = Store::default();
-    for node in &nodes {
-        store.intern(node.clone());
-    }
     let p = nodes.len() as u32 - 1;
-    let cells = store.cells(p);
+    let cells = Store::of(&nodes).cells(p);
     let from = words(&nodes);
     let variables = nodes.iter().filter(|node| node[0] == VAR).count();
     let flex = vec![0; variables];
@@ -233,17 +164,18 @@ fn growth(small: &Row, large: &Row) -> [f64; 2] {
 /// A family that grows too fast.
 fn grown(rows: &[Row]) -> Option<String> {
     rows.chunks(TIMES.len()).find_map(|sizes| {
-        let [first, second, .., last] = sizes else {
+        let [first, second, third, last] = sizes else {
             return None;
         };
         let more = last.nodes as f64 / first.nodes as f64;
-        let near = growth(first, second);
+        let [once, again] = [growth(first, second), growth(second, third)];
+        let near = [once[0].min(again[0]), once[1].min(again[1])];
         let far = growth(first, last).map(|times| times / more);
         let over = near.iter().chain(&far).any(|&times| times > MOST);
         over.then(|| {
             format!(
-                "{}: four times the size takes {:.2} times as long to copy and {:.2} to read back, \
-                 and a node at {more:.0} times the size {:.2} and {:.2}",
+                "{}: four times the size takes at least {:.2} times as long to copy and {:.2} to read \
+                 back, and a node at {more:.0} times the size {:.2} and {:.2}",
                 first.family, near[0], near[1], far[0], far[1]
             )
         })

@@ -4,7 +4,7 @@ use crate::needed::{first_steps, is_cut, needed, predicate, refs, slot};
 use crate::pack::{Pack, decode};
 use crate::vectors::Case;
 use crate::verdict::verdict;
-use std::collections::{HashMap, HashSet};
+use std::collections::{BTreeSet, HashMap, HashSet};
 use std::fmt::Write as _;
 
 const NONE: u32 = u32::MAX;
@@ -44,10 +44,18 @@ pub fn judge(case: &Case) -> Judged {
         return Ok(());
     }
     run.goals(case)?;
+    run.opens(&case.open)?;
     match case.emit == "done" {
         true => emission(&pack, case),
         false => Ok(()),
     }
+}
+
+/// The conclusion of each goal's class, as its pattern's number, and how many variables the class has.
+pub fn conclusions(pack: &Pack, case: &Case) -> Result<Vec<(u32, usize)>, String> {
+    let run = Run::read(pack, case)?;
+    let rows = run.goal_rows()?.into_iter();
+    Ok(rows.map(|row| (row.conclusion, row.flex.len())).collect())
 }
 
 struct Row {
@@ -255,17 +263,64 @@ impl<'a> Run<'a> {
         test(figures[9..] == slots, "the histogram")
     }
 
-    /// The shown text is what the words say, with budgets 60 and 12.
-    fn goals(&self, case: &Case) -> Judged {
+    /// The rows of the goals' classes.
+    fn goal_rows(&self) -> Result<Vec<&Row>, String> {
         let results = self.pack.results.iter();
         let results: HashMap<&str, u32> = results.map(|r| (r.name.as_str(), r.at)).collect();
-        let mut text = String::new();
-        for goal in &self.pack.goals {
-            let step = results
-                .get(goal.name.as_str())
-                .ok_or("a goal without a result")?;
+        let row = |name: &str| {
+            let step = results.get(name).ok_or("a goal without a result")?;
             let class = self.class_of[self.first[*step as usize] as usize];
-            let row = &self.rows[class as usize];
+            Ok(&self.rows[class as usize])
+        };
+        self.pack.goals.iter().map(|g| row(&g.name)).collect()
+    }
+
+    /// Open are the variables at record 9's position in the conclusion, without that record the
+    /// flexible ones.
+    fn opens(&self, open: &[Vec<u32>]) -> Judged {
+        let rows = self.goal_rows()?;
+        test(rows.len() == open.len(), "goals without open variables")?;
+        for (row, open) in rows.iter().zip(open) {
+            let wanted = match self.pack.abstracted {
+                Some((constructor, position)) => {
+                    self.standing(row.conclusion, constructor, position)
+                }
+                None => (0..)
+                    .zip(&row.flex)
+                    .filter(|(_, f)| **f == 1)
+                    .map(|(k, _)| k)
+                    .collect(),
+            };
+            test(*open == wanted, "a goal's open variables")?;
+        }
+        Ok(())
+    }
+
+    /// The variables that stand somewhere in a pattern as this argument of this constructor.
+    fn standing(&self, p: u32, constructor: u32, position: u32) -> Vec<u32> {
+        let mut standing = BTreeSet::new();
+        let mut seen = HashSet::from([p]);
+        let mut todo = vec![p];
+        while let Some(p) = todo.pop() {
+            let node = self.patterns[p as usize];
+            if node[0] == VAR {
+                continue;
+            }
+            if node[0] == constructor {
+                let there = self.patterns[node[position as usize + 1] as usize];
+                if there[0] == VAR {
+                    standing.insert(there[1]);
+                }
+            }
+            todo.extend(node[1..].iter().filter(|&&a| seen.insert(a)));
+        }
+        standing.into_iter().collect()
+    }
+
+    /// The shown text is what the words say, with budgets 60 and 12.
+    fn goals(&self, case: &Case) -> Judged {
+        let mut text = String::new();
+        for (goal, row) in self.pack.goals.iter().zip(self.goal_rows()?) {
             let mut values = HashMap::new();
             test(
                 self.instance(row.conclusion, goal.at, &mut values),

@@ -14,8 +14,8 @@ certpack: packs of certificate records
   certpack check PACK             test every step and goal; writes `0 0`, or the
                                   answer's number and place
   certpack judge FOLDER           judge the recorded vectors of a folder
-  certpack theorems FOLDER N K    write every N-th recorded case of at most 512 bytes,
-                                  from the K-th on, as theorems of the definition
+  certpack theorems FOLDER N K    write every N-th recorded case, from the K-th on, as
+                                  theorems of the definition
   certpack recorded FOLDER NAME   write what is recorded of one case: shown goals,
                                   proof lines, goal lines
   certpack --help                 this page
@@ -76,8 +76,7 @@ fn theorems_of(folder: &str, n: usize, k: usize) -> Result<String, Fault> {
     for path in vectors::files(folder)? {
         cases.extend(vectors::read(&path)?);
     }
-    let small: Vec<&Case> = cases.iter().filter(|c| c.pack.len() <= 512).collect();
-    let chosen: Vec<&Case> = small.into_iter().skip(k).step_by(n).collect();
+    let chosen: Vec<&Case> = cases.iter().skip(k).step_by(n).collect();
     Ok(theorems(&chosen)?)
 }
 

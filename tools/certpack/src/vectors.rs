@@ -20,6 +20,8 @@ pub struct Case {
     /// Largest graph in cells, pairs taken by unification.
     pub classes_used: Vec<u64>,
     pub shown: String,
+    /// Each goal's open variables.
+    pub open: Vec<Vec<u32>>,
     /// `done`, or how emission ended otherwise.
     pub emit: String,
     pub emitted: Vec<u64>,
@@ -81,6 +83,9 @@ impl Case {
             let _ = writeln!(out, "pattern-words {}", numbers(&self.pattern_words));
             let _ = writeln!(out, "classes-used {}", numbers(&self.classes_used));
             block(&mut out, "shown", &self.shown);
+            for variables in &self.open {
+                let _ = writeln!(out, "open {}", numbers(variables));
+            }
         }
         let _ = writeln!(out, "emit {}", self.emit);
         if self.emit == "done" {
@@ -142,6 +147,7 @@ pub fn read(path: &str) -> Result<Vec<Case>, String> {
             "pattern-words" => case.pattern_words = words(rest).ok_or_else(|| bad("numbers"))?,
             "classes-used" => case.classes_used = words(rest).ok_or_else(|| bad("numbers"))?,
             "shown" | "proof" | "goals" => {}
+            "open" => case.open.push(words(rest).ok_or_else(|| bad("numbers"))?),
             "emit" => case.emit = rest.to_owned(),
             "emitted" => case.emitted = words(rest).ok_or_else(|| bad("numbers"))?,
             "more-pattern-words" => {

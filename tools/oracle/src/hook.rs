@@ -15,6 +15,8 @@ pub struct Taken {
     /// Pattern words ahead of emission, and at the end.
     pub before: Vec<u32>,
     pub after: Vec<u32>,
+    /// The open variables of each goal, ascending.
+    pub open: Vec<Vec<u32>>,
     /// Largest graph in cells and pairs taken: of class building, then of emission.
     pub class_cells: u64,
     pub class_pairs: u64,
@@ -101,6 +103,14 @@ pub fn classes<'a>(
     // From here on cells and pairs are emission's.
     CLASS_CELLS.store(CELLS.swap(0, Relaxed), Relaxed);
     CLASS_PAIRS.store(PAIRS.swap(0, Relaxed), Relaxed);
+}
+
+pub fn open(goals: impl Iterator<Item = Vec<u32>>) {
+    let sorted = |mut variables: Vec<u32>| {
+        variables.sort();
+        variables
+    };
+    with(|taken| taken.open = goals.map(sorted).collect());
 }
 
 pub fn patterns(store: &Store) {

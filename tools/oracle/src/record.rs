@@ -176,6 +176,7 @@ pub fn record(name: &str, forms: &Forms) -> Result<Case, String> {
     let (mut goals, mut proof) = (Vec::new(), Vec::new());
     let ran = input.run(Some((&mut goals, &mut proof)));
     let taken = hook::take();
+    case.open = taken.open;
     case.emit = match ran {
         Ok((_, Some(e))) => {
             let counts = [

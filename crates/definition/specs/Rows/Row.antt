@@ -4,15 +4,17 @@ use mathlib.Core.List.{List, [], _∷_, _++_, map}
 use mathlib.Core.Option.{Option, none, some}
 use Prim.Native.Nat.{ℕ}
 use lib.ListN.{length}
-use Rattle.definition.specs.Pack.{Pack}
+use Rattle.definition.specs.Pack.{Term, Pack}
 use Rattle.definition.specs.Frame.{right, within, Read, fine, refuse, records, _>>=_ as _>>=f_}
 use Rattle.definition.specs.Run.{_>>=_ as _>>=r_}
 use Rattle.definition.specs.Parse.{kinds, takeRecord}
 use Rattle.definition.specs.Answer.{answer, Lent, lengths}
 use Rattle.definition.specs.Check.{certCheck}
 use Rattle.definition.specs.Store.{nothing}
-use Rattle.definition.specs.Graph.{Vertex, Graph, Unified, unify}
+use Rattle.definition.specs.Graph.{Vertex, Graph, Unified, unify, upTo}
+use Rattle.definition.specs.Classes.{mark}
 use Rattle.definition.specs.Figures.{slot}
+use Rattle.definition.specs.Open.{at}
 use Rattle.definition.specs.Calls.{Left, certClasses, certShow}
 use Rattle.definition.specs.Rows.Say.{bytes, sort, symbol, rule, node, step, goal, result, cut, abstract, nested, times}
 use Rattle.definition.specs.declared.Refusal.{Refusal}
@@ -36,6 +38,8 @@ pub data Row : Type 0 where
   slotted : ℕ → ℕ → Row
   -- a graph and two nodes: 1, the pairs taken and each node's link, or 0 and the pairs taken up to the clash
   unified : Graph → ℕ → ℕ → List ℕ → Row
+  -- a term, record 9's constructor and position, and a mark for each variable
+  opened : Term → ℕ → ℕ → List ℕ → Row
 
 unfoldable pub refusal : {A : Type 0} → Read A → Option Refusal
 refusal (fine a) = none
@@ -60,7 +64,7 @@ all-of l = numbers (l .returned) ++ (l .class ++ (l .pattern ++ figureWords (l .
 
 -- what a row's call gives
 unfoldable pub seen : Row → List ℕ
-unfolding _>>=f_ _>>=r_ right within answer lengths certCheck certClasses certShow records kinds takeRecord refusal slot unify unifiedWords bytes sort symbol rule node step goal result cut abstract nested times
+unfolding _>>=f_ _>>=r_ right within answer lengths certCheck certClasses certShow records kinds takeRecord refusal slot unify unifiedWords upTo mark at bytes sort symbol rule node step goal result cut abstract nested times
 seen (check pack work code place) = numbers (certCheck pack work .returned)
 seen (lent l code place) = numbers (answer (lengths l))
 seen (reading P last at s code place) = numbers (answer (refusal (records kinds takeRecord s 0 at last P)))
@@ -69,6 +73,7 @@ seen (built pack cells class pattern figures) = all-of (certClasses pack (length
 seen (shown pack budget value text) = certShow pack budget value 1000 1000 1000 100000 (length text) .text
 seen (slotted n s) = slot n ∷ []
 seen (unified g x y words) = unifiedWords (unify g x y)
+seen (opened t c i marks) = map (λ (k : ℕ). mark (at c i k t)) (upTo (length marks))
 
 -- what a row says of it
 abbrev pub said : Row → List ℕ
@@ -80,6 +85,7 @@ said (built pack cells class pattern figures) = (0 ∷ 0 ∷ []) ++ (class ++ (p
 said (shown pack budget value text) = text
 said (slotted n s) = s ∷ []
 said (unified g x y words) = words
+said (opened t c i marks) = marks
 
 abbrev pub Claim : Row → Type 0
 Claim r = seen r ≡ said r

@@ -10,6 +10,7 @@ use Rattle.definition.specs.Rows.Verdict.{rows as verdict-rows, hold as 
 use Rattle.definition.specs.Rows.Classes.{rows as classes-rows, hold as classes-hold}
 use Rattle.definition.specs.Rows.Order.{rows as order-rows, hold as order-hold}
 use Rattle.definition.specs.Rows.Unify.{rows as unify-rows, hold as unify-hold}
+use Rattle.definition.specs.Rows.Open.{rows as open-rows, hold as open-hold}
 
 -- a table that holds
 pub record Part : Type 0 where
@@ -28,7 +29,7 @@ joined (p ∷ ps) = record { rows = p .rows ++ joined ps .rows; holds = both (p 
 abbrev pub parts : List Part
 parts = record { rows = length-rows; holds = length-hold } ∷ record { rows = name-rows; holds = name-hold } ∷ record { rows = theory-rows; holds = theory-hold }
     ∷ record { rows = limit-rows; holds = limit-hold } ∷ record { rows = certificate-rows; holds = certificate-hold } ∷ record { rows = verdict-rows; holds = verdict-hold }
-    ∷ record { rows = classes-rows; holds = classes-hold } ∷ record { rows = order-rows; holds = order-hold } ∷ record { rows = unify-rows; holds = unify-hold } ∷ []
+    ∷ record { rows = classes-rows; holds = classes-hold } ∷ record { rows = order-rows; holds = order-hold } ∷ record { rows = unify-rows; holds = unify-hold } ∷ record { rows = open-rows; holds = open-hold } ∷ []
 
 -- every row of every part
 pub small-packs : Holds (joined parts .rows)

@@ -8,11 +8,11 @@ use native.Mathlib.Omega.{arith}
 use lib.Dec.{eqb}
 use lib.ListN.{length}
 use Rattle.definition.specs.Pack.{Pack}
-use Rattle.definition.specs.Test.{is, see, never, tests}
+use Rattle.definition.specs.Test.{is, see, never, tests, or-right}
 use Rattle.definition.specs.Graph.{Graph, vertex, root, isVar, join, bind, cells, Pair, Turn, on, clashed, meet, takePairs, unify}
 use Rattle.theory.specs.Unification.Solve.{sortAt, Formed}
 use Rattle.theory.specs.Unification.Join.{Joined, join-joined, bind-joined}
-use Rattle.theory.specs.Unification.Marks.{Marked, or-right, join-marked, bind-marked}
+use Rattle.theory.specs.Unification.Marks.{Marked, join-marked, bind-marked}
 use Rattle.theory.specs.Unification.Forest.{root-self, sent}
 use Rattle.theory.specs.Unification.Kept.{same-var, formed-joined, root-joined, root-sort}
 use Rattle.theory.specs.Unification.Pairs.{Paired}

@@ -1,6 +1,6 @@
 -- What one link more does to marks: only a variable is joined to a variable, and the other's mark is then that of either.
-use mathlib.Core.Path.{_≡_, refl, sym, ap, _∙_}
-use mathlib.Core.Bool.{Bool, true, false, _||_}
+use mathlib.Core.Path.{_≡_, sym, ap, _∙_}
+use mathlib.Core.Bool.{true, false, _||_}
 use mathlib.Core.List.{[]}
 use Prim.Native.Nat.{ℕ, _<_}
 use lib.ListN.{length, set}
@@ -13,11 +13,6 @@ pub record Marked (g h : Graph) (x y : ℕ) : Type 0 where
   pub there : (z : ℕ) → (z ≡ x → ⊥) → (z ≡ y → ⊥) → vertex h z .flex ≡ vertex g z .flex
   pub vars : isVar (vertex g y) ≡ true → isVar (vertex g x) ≡ true
   pub here : isVar (vertex g y) ≡ true → vertex h y .flex ≡ (vertex g y .flex || vertex g x .flex)
-
--- either mark marks
-pub or-right : (a b : Bool) → b ≡ true → (a || b) ≡ true
-or-right true b e = refl
-or-right false b e = e
 
 -- a node put in place of another
 put-same : (g : Graph) (x : ℕ) (v : Vertex) → x < length g → vertex (set g x v) x ≡ v

@@ -4,26 +4,26 @@ use Rattle.goals.specs.Tests.{made-seen, made-values, begun-testable, be
 use Rattle.goals.proofs.goals.test_goals.Statement.{statement}
 use Rattle.goals.proofs.goals.test_goals.Tie as tie
 
-begin-memo-requires : tie.Need-begin-memo-requires
-begin-memo-requires c κs = made-seen _ _ _ _ _ _ _ _ _ (c .before .before .before .before .before .pre)
+begin-requires : tie.Need-begin-requires
+begin-requires c κs = made-seen _ _ _ _ _ _ _ _ _ (c .before .before .before .before .before .pre)
 
-begin-memo-requires-2 : tie.Need-begin-memo-requires-2
-begin-memo-requires-2 c κs = made-values _ _ _ _ _ _ _ _ _ (c .before .before .before .before .before .before .before .before .before .pre) _ _ (c .before .before .before .begin-memo .ensures)
+begin-requires-2 : tie.Need-begin-requires-2
+begin-requires-2 c κs = made-values _ _ _ _ _ _ _ _ _ (c .before .before .before .before .before .before .before .before .before .pre) _ _ (c .before .before .before .begin .ensures)
 
 test-each-requires : tie.Need-test-each-requires
-test-each-requires c κs = begun-testable _ _ _ _ _ _ _ _ _ (c .before .before .before .before .before .before .before .before .before .before .before .before .before .pre) _ _ (c .before .before .before .before .before .before .before .begin-memo .ensures) _ _ (c .before .before .before .begin-memo2 .ensures)
+test-each-requires c κs = begun-testable _ _ _ _ _ _ _ _ _ (c .before .before .before .before .before .before .before .before .before .before .before .before .before .pre) _ _ (c .before .before .before .before .before .before .before .begin .ensures) _ _ (c .before .before .before .begin2 .ensures)
 
 returns : tie.Need-returns
 returns c =
     let d = c .before .before .test-each in
-    begun-tests _ _ _ _ _ _ _ _ _ (c .before .before .before .before .before .before .before .before .before .before .before .before .before .before .before .before .pre) _ _ (c .before .before .before .before .before .before .before .before .before .before .begin-memo .ensures) _ _ (c .before .before .before .before .before .before .begin-memo2 .ensures) (d .last .1 .0) (d .result) (d .ensures)
+    begun-tests _ _ _ _ _ _ _ _ _ (c .before .before .before .before .before .before .before .before .before .before .before .before .before .before .before .before .pre) _ _ (c .before .before .before .before .before .before .before .before .before .before .begin .ensures) _ _ (c .before .before .before .before .before .before .begin2 .ensures) (d .last .1 .0) (d .result) (d .ensures)
 
 pub test-goals-spec : {M : Type 1} → statement M
 test-goals-spec =
     tie.close
     (tie.spec
-    begin-memo-requires
-    begin-memo-requires-2
+    begin-requires
+    begin-requires-2
     test-each-requires
     (λ c. search needs)
     returns)

@@ -18,7 +18,7 @@ begin-store-requires : tie.Need-begin-store-requires
 begin-store-requires c κs = let s = c .before .before .before .before .before .before .before .before .before .before .before .before .before .before .before .before .before .before .before .before .before in ready-indexable _ _ (s .args .class .now) _ _ _ (s .pre) _ _ _ (c .before .before .before .before .before .before .before .before .before .before .before .before .keying .ensures) (c .before .before .before .before .before .before .before .before .before .before .count2 .ensures) (c .before .before .before .before .before .before .before .before .layout .ensures) (omega (arith, c .before .before .before .before .before .before .before .before .before .before .before .before .before .before .count .ensures, c .before .before .before .before .before .before .before .before .before .before .before .before .before .if1 .left)) _ (c .before .before .before .before .before .key-steps .kept .1 .0)
 
 returns-2 : tie.Need-returns-2
-returns-2 c = let keyed = c .before .before .before .before .before .before .before .before .before .before .before .before .key-steps in ready-on _ _ _ _ _ _ (c .before .before .before .before .before .before .before .before .before .before .before .before .before .before .before .before .before .before .before .before .before .before .before .before .before .before .before .before .pre) _ _ _ (c .before .before .before .before .before .before .before .before .before .before .before .before .before .before .before .before .before .before .before .keying .ensures) (c .before .before .before .before .before .before .before .before .before .before .before .before .before .before .before .before .before .count2 .ensures) (c .before .before .before .before .before .before .before .before .before .before .before .before .before .before .before .layout .ensures) (omega (arith, c .before .before .before .before .before .before .before .before .before .before .before .before .before .before .before .before .before .before .before .before .before .count .ensures, c .before .before .before .before .before .before .before .before .before .before .before .before .before .before .before .before .before .before .before .before .if1 .left)) _ _ _ _ _ _ _ (keyed .ensures .0) (keyed .ensures .1 .0) (keyed .ensures .1 .1) (c .before .before .before .before .before .before .begin-store .ensures) (c .before .before .begin-memo .ensures)
+returns-2 c = let keyed = c .before .before .before .before .before .before .before .before .before .before .before .before .key-steps in ready-on _ _ _ _ _ _ (c .before .before .before .before .before .before .before .before .before .before .before .before .before .before .before .before .before .before .before .before .before .before .before .before .before .before .before .before .pre) _ _ _ (c .before .before .before .before .before .before .before .before .before .before .before .before .before .before .before .before .before .before .before .keying .ensures) (c .before .before .before .before .before .before .before .before .before .before .before .before .before .before .before .before .before .count2 .ensures) (c .before .before .before .before .before .before .before .before .before .before .before .before .before .before .before .layout .ensures) (omega (arith, c .before .before .before .before .before .before .before .before .before .before .before .before .before .before .before .before .before .before .before .before .before .count .ensures, c .before .before .before .before .before .before .before .before .before .before .before .before .before .before .before .before .before .before .before .before .if1 .left)) _ _ _ _ _ _ _ (keyed .ensures .0) (keyed .ensures .1 .0) (keyed .ensures .1 .1) (c .before .before .before .before .before .before .begin-store .ensures) (c .before .before .begin .ensures)
 
 pub make-ready-spec : {M : Type 1} → statement M
 make-ready-spec =

@@ -1,18 +1,17 @@
--- Parts of work as they are lent, memos in them, and the worklist's pairs.
-use mathlib.Core.Path.{_≡_, refl, sym, ap, ap₂, _∙_}
-use mathlib.Core.List.{List, [], _∷_}
+-- Memos in a part of work, lent as `&mut work[a..e]`: what they have for a number, and what is left of it by what was written elsewhere.
+use mathlib.Core.Path.{_≡_, sym, ap, _∙_}
+use mathlib.Core.List.{List}
 use mathlib.Core.Option.{Option, none, some}
-use Prim.Native.Nat.{ℕ, zero, suc, _+_, _*_, _-_, _≤_, _<_}
+use Prim.Native.Nat.{ℕ, _-_, _≤_, _<_}
 use native.Mathlib.Omega.{arith}
-use lib.ListN.{length, getD, set, take, drop, replicate, length-set}
+use lib.ListN.{length, getD, set, take, drop, replicate}
 use lib.Seq.{getD-set-same, getD-set-other}
-use Rattle.definition.specs.Graph.{Pair}
+use Rattle.base.specs.Listed.{only-at}
 use Rattle.base.specs.Outside.{Outside}
 use Rattle.base.specs.Lent.{lent-ahead, lent-behind as behind, back, back-outside as outside}
 use Rattle.base.specs.Part.{part, put, length-part}
-use Rattle.theory.specs.Walks.Ahead.{beside}
 use Rattle.memo.specs.Recall.{recall, Remembers}
 use Rattle.memo.specs.declared.memo.Memo.{Memo}
 
 -- what stands from a up to e, as it is lent
 abbrev pub lent : ℕ → ℕ → List ℕ → List ℕ
@@ -78,12 +77,6 @@ puts work a e memo k v h m l ys long R s =
       others = λ j d. ap (λ (os : List (Option ℕ)). getD os j none) new ∙ getD-set-other old k j (some v) none (λ q. d (sym q));
     }
 
--- nowhere in a list of nones is a value
-none-at : (n k : ℕ) → _≡_ {A = Option ℕ} (getD (replicate n none) k none) none
-none-at zero k = refl
-none-at (suc n) zero = refl
-none-at (suc n) (suc k) = none-at n k
-
 -- `clear` over the part does that
 pub clears : (work : List ℕ) (a e : ℕ) (memo : Memo) (n : ℕ) → a ≤ e → e ≤ length work → (ys : List ℕ) → length ys ≡ length (lent a e work) → Remembers ys memo → recall ys memo ≡ replicate n none
     → Clears work (put a (e - a) ys work) a e memo
@@ -93,38 +86,15 @@ clears work a e memo n h m ys long R s =
     record {
       outside = back-outside a e work h m ys long;
       remembers = rw b R;
-      empty = λ k. ap (λ (zs : List ℕ). getD (recall zs memo) k none) b ∙ ap (λ (os : List (Option ℕ)). getD os k none) s ∙ none-at n k;
+      empty = λ k. ap (λ (zs : List ℕ). getD (recall zs memo) k none) b ∙ ap (λ (os : List (Option ℕ)). getD os k none) s ∙ only-at none n k;
     }
 
--- ---- pairs
--- the first n pairs from a place on, the last one on top
-unfoldable pub pairsIn : ℕ → List ℕ → ℕ → List Pair
-pairsIn from work zero = []
-pairsIn from work (suc n) = beside (getD work (from + 2 * n) 0) (getD work (from + 2 * n + 1) 0) ∷ pairsIn from work n
+-- a memo ahead of what was written recalls the same
+pub recall-before : (a e : ℕ) (work work′ : List ℕ) → Outside a e work work′ → (b f : ℕ) → b ≤ f → f ≤ a → f ≤ length work → (memo : Memo) (k : ℕ) → recallAt b f work′ memo k ≡ recallAt b f work memo k
+unfolding recallAt
+recall-before a e work work′ A b f h i m memo k = ap (λ (zs : List ℕ). getD (recall zs memo) k none) (lent-before a e work work′ A b f h i m)
 
--- so many
-pub length-pairsIn : (from : ℕ) (work : List ℕ) (n : ℕ) → length (pairsIn from work n) ≡ n
-unfolding pairsIn
-length-pairsIn from work zero = refl
-length-pairsIn from work (suc n) = ap suc (length-pairsIn from work n)
-
--- they are the same where the words are
-pub pairs-same : (from : ℕ) (work work′ : List ℕ) (n : ℕ) → ((i : ℕ) → i < from + 2 * n → getD work′ i 0 ≡ getD work i 0) → pairsIn from work′ n ≡ pairsIn from work n
-unfolding pairsIn
-pairs-same from work work′ zero h = refl
-pairs-same from work work′ (suc n) h =
-    ap₂ (λ (p : Pair) (ps : List Pair). p ∷ ps)
-    (ap₂ (λ (a b : ℕ). beside a b) (h (from + 2 * n) (omega arith)) (h (from + 2 * n + 1) (omega arith)))
-    (pairs-same from work work′ n (λ i l. h i (omega arith)))
-
--- one pair more
-pub pairs-more : (from : ℕ) (work : List ℕ) (n x m : ℕ) → from + 2 * n + 1 < length work
-    → pairsIn from (set (set work (from + 2 * n) x) (from + 2 * n + 1) m) (suc n) ≡ beside x m ∷ pairsIn from work n
-unfolding pairsIn
-pairs-more from work n x m h =
-    let i : ℕ = from + 2 * n in
-    let first : List ℕ = set work i x in
-    let long = length-set work i x in
-    ap₂ (λ (p : Pair) (ps : List Pair). p ∷ ps)
-    (ap₂ (λ (a b : ℕ). beside a b) (getD-set-other first (i + 1) i m 0 (λ q. omega (arith, q)) ∙ getD-set-same work i x 0 (omega arith)) (getD-set-same first (i + 1) m 0 (omega (arith, long))))
-    (pairs-same from work (set first (i + 1) m) n (λ j l. getD-set-other first (i + 1) j m 0 (λ q. omega (arith, q)) ∙ getD-set-other work i j x 0 (λ q. omega (arith, q))))
+-- and so does one behind it
+pub recall-behind : (a e : ℕ) (work work′ : List ℕ) → Outside a e work work′ → (b f : ℕ) → b ≤ f → e ≤ b → f ≤ length work → (memo : Memo) (k : ℕ) → recallAt b f work′ memo k ≡ recallAt b f work memo k
+unfolding recallAt
+recall-behind a e work work′ A b f h i m memo k = ap (λ (zs : List ℕ). getD (recall zs memo) k none) (lent-behind a e work work′ A b f h i m)

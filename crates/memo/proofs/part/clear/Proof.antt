@@ -1,10 +1,10 @@
 -- `clear` meets its contract.
 use borrow.Author.Needs.{needs}
 use lib.ListN.{length}
 use Rattle.memo.specs.Recall.{recall}
-use Rattle.instance.specs.Tables.{lent, clears}
-use Rattle.instance.proofs.tables.clear.Statement.{statement}
-use Rattle.instance.proofs.tables.clear.Tie as tie
+use Rattle.memo.specs.Lent.{lent, clears}
+use Rattle.memo.proofs.part.clear.Statement.{statement}
+use Rattle.memo.proofs.part.clear.Tie as tie
 
 returns : tie.Need-returns
 returns c =

@@ -1,8 +1,8 @@
 -- `put` meets its contract.
 use borrow.Author.Needs.{needs}
-use Rattle.instance.specs.Tables.{puts}
-use Rattle.instance.proofs.tables.put.Statement.{statement}
-use Rattle.instance.proofs.tables.put.Tie as tie
+use Rattle.memo.specs.Lent.{puts}
+use Rattle.memo.proofs.part.put.Statement.{statement}
+use Rattle.memo.proofs.part.put.Tie as tie
 
 returns : tie.Need-returns
 returns c =

@@ -1,8 +1,8 @@
 -- `get` meets its contract.
 use borrow.Author.Needs.{needs}
-use Rattle.instance.specs.Tables.{recallAt}
-use Rattle.instance.proofs.tables.get.Statement.{statement}
-use Rattle.instance.proofs.tables.get.Tie as tie
+use Rattle.memo.specs.Lent.{recallAt}
+use Rattle.memo.proofs.part.get.Statement.{statement}
+use Rattle.memo.proofs.part.get.Tie as tie
 
 returns : tie.Need-returns
 unfolding recallAt
