@@ -69,6 +69,27 @@ fn a_damaged_record_is_found() {
         |c| c.emit_used[1] = 1,
         |c| c.pack[40] ^= 1,
     ];
+    found(&good, damages);
+}
+
+#[test]
+fn a_damaged_open_variable_is_found() {
+    let damages: &[fn(&mut Case)] = &[
+        |c| c.open[0].push(7),
+        |c| c.open[0].clear(),
+        |c| c.open[0][0] += 1,
+        |c| c.open.clear(),
+    ];
+    // Flexible variables are open, or those that record 9 opens.
+    for name in ["trees", "abstract-below"] {
+        let good = case(name);
+        assert_eq!(judge(&good), Ok(()));
+        found(&good, damages);
+    }
+}
+
+/// Each damage is found by the judge.
+fn found(good: &Case, damages: &[fn(&mut Case)]) {
     for (i, damage) in damages.iter().enumerate() {
         let mut bad = good.clone();
         damage(&mut bad);
