@@ -156,14 +156,7 @@ pub fn one(what: &str, kind: &str, numbers: &[&str]) -> Result<String, String> {
             // The same buffers for every count, since a call clears what it was lent.
             let cells = COPIES as usize * Store::of(&nodes).cells(p);
             let mut lent = walk::Lent::new(0, from.len(), cells);
-            let answer = lent.copy(&Asked {
-                pack: &[],
-                from: &from,
-                flex: &flex,
-                p: p.into(),
-                copies,
-                read,
-            });
+            let answer = lent.copy(&Asked::unpacked(&from, &flex, p, copies, read));
             said(answer.code == 0, format!("{answer:?}"))
         }
         _ => Err("a kind and numbers are wanted".into()),

@@ -129,6 +129,21 @@ pub struct Asked<'a> {
     pub read: u64,
 }
 
+impl<'a> Asked<'a> {
+    /// Of no pack: patterns alone.
+    pub fn unpacked(from: &'a [u32], flex: &'a [u32], p: u32, copies: u64, read: u64) -> Self {
+        let (pack, p) = (&[][..], p.into());
+        Asked {
+            pack,
+            from,
+            flex,
+            p,
+            copies,
+            read,
+        }
+    }
+}
+
 /// A store of distinct nodes: each a head and its arguments, or a variable's number and sort.
 #[derive(Clone, Default)]
 pub struct Store {

@@ -76,14 +76,7 @@ fn measure(family: &Family, n: usize, rounds: usize) -> Result<Row, String> {
     let from = words(&nodes);
     let variables = nodes.iter().filter(|node| node[0] == VAR).count();
     let flex = vec![0; variables];
-    let ask = |copies, read| Asked {
-        pack: &[],
-        from: &from,
-        flex: &flex,
-        p: p.into(),
-        copies,
-        read,
-    };
+    let ask = |copies, read| Asked::unpacked(&from, &flex, p, copies, read);
     let told = |answer: Walked, copies: usize, at: u32, numbered: usize| {
         let wanted = Walked {
             code: 0,
