@@ -27,9 +27,11 @@ use Rattle.at.specs.Held.{metIn, markedIn, Low, waiting, unmet, Given, g
 use Rattle.at.specs.Meets.{Meetable, Meets, Enters, unmet-fewer}
 use Rattle.at.specs.Takes.{Ready, Takes}
 
--- ---- `at` promises: each mark is the definition's, the memo can be used on, and nothing ahead of the stack or behind the marks has changed
+-- ---- `at` promises: each mark is the definition's, the memo can be used on, and nothing has changed ahead of the stack, between the memo and
+-- the marks, or behind the marks
 pub record Opens (work work′ words : List ℕ) (l : Opening) (st : Store) (p c i : ℕ) (met : Memo) : Type 0 where
   pub outside : Outside (l .stack) (l .end) work work′
+  pub between : (j : ℕ) → l .past ≤ j → j < l .marks → getD work′ j 0 ≡ getD work j 0
   pub kept : Remembers (lent (l .met) (l .past) work′) met
   pub marks : (k : ℕ) → k < l .end - l .marks → getD work′ (l .marks + k) 0 ≡ mark (at c i k (termOf (nodes words st) p))
 
@@ -37,6 +39,7 @@ pub record Opens (work work′ words : List ℕ) (l : Opening) (st : Store) (p c
 pub record Going (first work words : List ℕ) (l : Opening) (st : Store) (met : Memo) (p c i : ℕ) (todo : Stack) : Type 0 where
   pub given : Given work words l st met
   pub outside : Outside (l .stack) (l .end) first work
+  pub between : (j : ℕ) → l .past ≤ j → j < l .marks → getD work j 0 ≡ getD first j 0
   pub base : todo .at ≡ l .stack
   pub low : Low work l
   pub room : todo .len + unmet work words l st met ≤ length (nodes words st)
@@ -74,6 +77,7 @@ module _ (first work words : List ℕ) (l : Opening) (st : Store) (met : Memo) (
     going-on work′ r M = record {
       given = given-on work words l st met (G .given) work′ met (M .outside) (M .kept);
       outside = outside-then (l .stack) (l .end) first work work′ (G .outside) (M .outside);
+      between = λ j a b. M .between j a b ∙ G .between j a b;
       base = M .base;
       low = M .low (G .low);
       room = omega (arith, M .room, G .room, going-less);
@@ -92,6 +96,7 @@ module _ (first work words : List ℕ) (l : Opening) (st : Store) (met : Memo) (
       let R : Reaching (nodes words st) c i p [] (metIn work l met) (markedIn work l) = subst (λ (ws : List ℕ). Reaching (nodes words st) c i p ws (metIn work l met) (markedIn work l)) e (G .reaching) in
       record {
         outside = G .outside;
+        between = G .between;
         kept = H .kept;
         marks = λ k h.
             let w : ℕ = getD (lent (l .marks) (l .end) work) k 0 in
@@ -166,12 +171,13 @@ module _ (work words : List ℕ) (l : Opening) (st : Store) (met : Memo) (H : Gi
       unfolding markedIn stacked
       first-going c i first todo M =
           let E : Enters mid first l fresh noneWaits p todo = rw (mid-none p) at M in
-          let A : Outside (l .stack) (l .end) mid first = outside-wider (l .stack) (l .past) (l .stack) (l .end) mid first (omega arith) (omega (arith, H .gap, H .order)) (E .outside) in
+          let W : Outside (l .stack) (l .end) mid first = outside-wider (l .stack) (l .past) (l .stack) (l .end) mid first (omega arith) (omega (arith, H .gap, H .order)) (E .outside) in
           let marks : (k : ℕ) → getD (lent (l .marks) (l .end) first) k 0 ≡ 0 =
           λ k. ap (λ (zs : List ℕ). getD zs k 0) (marks-behind (l .stack) (l .past) mid first (E .outside) l (H .gap) (H .order) (omega (arith, H .fits, mid-outside .long)) ∙ mid-marks) ∙ clean-marks k in
           record {
-            given = given-on mid words l st fresh mid-given first fresh A (E .kept);
-            outside = outside-then (l .stack) (l .end) work mid first mid-outside A;
+            given = given-on mid words l st fresh mid-given first fresh W (E .kept);
+            outside = outside-then (l .stack) (l .end) work mid first mid-outside W;
+            between = λ j a b. E .outside .behind j a ∙ A .outside .behind j a ∙ clean-outside .ahead j b;
             base = E .base;
             low = λ k. omega (arith, marks k);
             room = omega (arith, E .more, unmet-fewer mid first words l st fresh p lp (mid-none p) (E .here) (E .others), count-most (λ x. not (metIn mid l fresh x)) (length (nodes words st)));

@@ -1,5 +1,5 @@
 -- A node is taken: a variable has nothing; an application's variable is marked and its arguments are met.
-use mathlib.Core.Path.{_≡_, sym, ap, subst, _∙_}
+use mathlib.Core.Path.{_≡_, refl, sym, ap, subst, _∙_}
 use mathlib.Core.Bool.{Bool, true, false, not}
 use mathlib.Core.List.{List, _∷_}
 use Prim.Native.Nat.{ℕ, _+_, _≤_, _<_}
@@ -39,6 +39,7 @@ pub record Ready (work words : List ℕ) (l : Opening) (st : Store) (met : Memo)
 -- and promises: the walk goes on with what waits then
 pub record Takes (work work′ words : List ℕ) (l : Opening) (st : Store) (met : Memo) (todo : Stack) (q c i : ℕ) (r : Stack) : Type 0 where
   pub outside : Outside (l .stack) (l .end) work work′
+  pub between : (j : ℕ) → l .past ≤ j → j < l .marks → getD work′ j 0 ≡ getD work j 0
   pub kept : Remembers (lent (l .met) (l .past) work′) met
   pub base : r .at ≡ l .stack
   pub low : Low work l → Low work′ l
@@ -68,6 +69,7 @@ module _ (work words : List ℕ) (l : Opening) (st : Store) (met : Memo) (todo :
         let none : (k : ℕ) → hits s c i q k ≡ false = λ k. hits-short s c i q k (omega (arith, b)) in
         record {
           outside = outside-none (l .stack) (l .end) work;
+          between = λ j a b. refl;
           kept = Q .given .kept;
           base = Q .base;
           low = λ z. z;
@@ -128,6 +130,7 @@ module _ (work words : List ℕ) (l : Opening) (st : Store) (met : Memo) (todo :
             let marks = marks-behind (l .stack) (l .past) mid work′ (M .outside) l (H .gap) (H .order) (omega (arith, H .fits, N .outside .long)) in
             record {
               outside = outside-then (l .stack) (l .end) work mid work′ wide (outside-wider (l .stack) (l .past) (l .stack) (l .end) mid work′ (omega arith) (omega (arith, H .gap, H .order)) (M .outside));
+              between = λ j a b. M .outside .behind j a ∙ N .outside .ahead j b;
               kept = M .kept;
               base = M .base;
               low = λ z k. omega (arith, N .low z k, ap (λ (ws : List ℕ). getD ws k 0) marks);
