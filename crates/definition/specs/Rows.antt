@@ -1,5 +1,6 @@
 -- The small packs, a file for each part.
 pub mod Say
+pub mod Packs
 pub mod Row
 pub mod Front
 pub mod Length

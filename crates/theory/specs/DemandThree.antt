@@ -26,14 +26,14 @@ use Rattle.definition.specs.Laws.Store.{nodes-back, length-patternWords}
 use Rattle.definition.specs.Store.{nothing, patternWords, nodesIn}
 use Rattle.definition.specs.Answer.{Lent, answer, lengths, padded, mostCells}
 use Rattle.definition.specs.Run.{Run, done, outcome}
-use Rattle.definition.specs.Keys.{firstOf, Keyed, keyed}
+use Rattle.definition.specs.Keys.{firstOf, predicateOf, isCut, ruleKey, keyOf, Keyed, noKeyed, keyed}
 use Rattle.definition.specs.Classes.{Class, noClass, Built, mark, rowWords, classWords}
 use Rattle.definition.specs.Figures.{figures}
 use Rattle.definition.specs.Calls.{Classed, classRun, classesLent, called, Left, answered, certClasses}
 use Rattle.definition.specs.declared.Refusal.the-variants.{Limit}
 use Rattle.theory.specs.Derive.{InstanceOf, Derivation, leaf, by, Derivations, none as no-derivations, more, Shape, Shapes}
 use Rattle.theory.specs.Keys.Needed.{first-earlier}
-use Rattle.theory.specs.Keys.KeyedLaws.{keyed-kept}
+use Rattle.theory.specs.Keys.KeyedLaws.{keyed-kept, same-class}
 use Rattle.theory.specs.Patterns.Interned.{Grows, with}
 use Rattle.theory.specs.Patterns.Sorted.{sorted-inside}
 use Rattle.theory.specs.Patterns.Instances.{instance-grows, instance-before}
@@ -66,19 +66,23 @@ row-back (x ∷ cs) (k ∷ ks) zs (suc c) e h =
     let on : rowIn (rowWords (x ∷ cs) (k ∷ ks) ++ zs) (suc c) ≡ rowIn (rowWords cs ks ++ zs) c = ap (λ (ws : List ℕ). rowIn ws c) d in
     ap (λ (ws : List ℕ). getD ws 0 0) on ∙ row-back cs ks zs c (omega arith) (omega arith)
 
+-- step words that agree, whatever stands for none
+abbrev Agree : Pack → List ℕ → List ℕ → Type 0
+Agree P ws vs = (s d : ℕ) → s < length (P .steps) → getD ws s d ≡ getD vs s d
+
 -- the first words are each step's class
 module _ (P : Pack) (G : Good P) (b : Built) (n : ℕ) where
   abbrev words : List ℕ
   words = padded n (classWords P b)
 
-  word-back : (s : ℕ) → s < length (P .steps) → getD (padded n (classWords P b)) s 0 ≡ getD (keyed P .words) s 0
+  word-back : Agree P (padded n (classWords P b)) (keyed P .words)
   unfolding padded classWords
-  word-back s h =
+  word-back s d h =
       let K = keyed-kept P G .1 in
       let rows = rowWords (b .classes) (keyed P .classes) in
       let zs : List ℕ = replicate (n - length (keyed P .words ++ rows)) 0 in
       let l = length-append (keyed P .words) rows in
-      List·getD-append (keyed P .words ++ rows) zs 0 s (omega arith) ∙ List·getD-append (keyed P .words) rows 0 s (omega arith)
+      List·getD-append (keyed P .words ++ rows) zs d s (omega arith) ∙ List·getD-append (keyed P .words) rows d s (omega arith)
 
   conclusion-back : length (b .classes) ≡ length (keyed P .classes) → (c : ℕ) → c < length (b .classes) → conclusionIn P (padded n (classWords P b)) c ≡ getD (b .classes) c noClass .conclusion
   unfolding padded classWords conclusionIn
@@ -91,22 +95,32 @@ module _ (P : Pack) (G : Good P) (b : Built) (n : ℕ) where
       ap (λ (ws : List ℕ). getD (rowIn ws c) 0 0) d ∙ row-back (b .classes) (keyed P .classes) zs c e h
 
 -- the classes of refs by step words that agree
-classes-same : (P : Pack) (ws vs : List ℕ) → ((s : ℕ) → s < length (P .steps) → getD ws s 0 ≡ getD vs s 0) → (refs : List ℕ) → Below (length (P .steps)) refs
-    → map (λ q. getD ws (firstOf P q) 0) refs ≡ map (λ q. getD vs (firstOf P q) 0) refs
-classes-same P ws vs e [] b = refl
-classes-same P ws vs e (q ∷ refs) b = let f = first-earlier P q (b .0) in ap₂ _∷_ (e (firstOf P q) (omega (arith, b .0))) (classes-same P ws vs e refs (b .1))
+classes-same : (P : Pack) (ws vs : List ℕ) → Agree P ws vs → (d : ℕ) (refs : List ℕ) → Below (length (P .steps)) refs → map (λ q. getD ws (firstOf P q) d) refs ≡ map (λ q. getD vs (firstOf P q) d) refs
+classes-same P ws vs e d [] b = refl
+classes-same P ws vs e d (q ∷ refs) b = let f = first-earlier P q (b .0) in ap₂ _∷_ (e (firstOf P q) d (omega (arith, b .0))) (classes-same P ws vs e d refs (b .1))
 
--- shapes are the same by step words that agree
+-- a step's own refs among them
+refs-same : (P : Pack) → Good P → (ws vs : List ℕ) → Agree P ws vs → (d s : ℕ) → s < length (P .steps) → map (λ q. getD ws (firstOf P q) d) (stepOf P s .refs) ≡ map (λ q. getD vs (firstOf P q) d) (stepOf P s .refs)
+refs-same P G ws vs e d s h = classes-same P ws vs e d (stepOf P s .refs) (below-more s (length (P .steps)) (stepOf P s .refs) (omega arith) (G .steps s h .earlier))
+
+-- keys are the same by step words that agree
+key-same : (P : Pack) → Good P → (ws vs : List ℕ) → Agree P ws vs → (s : ℕ) → s < length (P .steps) → keyOf P ws s ≡ keyOf P vs s
+unfolding keyOf
+key-same P G ws vs e s h = elim (see (isCut P (predicateOf P s))) [
+  | is true p ↦ rw (p, keyOf)
+  | is false p ↦ rw (p, keyOf) (ap (ruleKey (stepOf P s .rule)) (refs-same P G ws vs e nothing s h))
+]
+
+-- and so are shapes
 mutual
-  shape-same : (P : Pack) → Good P → (ws vs : List ℕ) → ((s : ℕ) → s < length (P .steps) → getD ws s 0 ≡ getD vs s 0) → {j : Tree} (d : Derivation P j) (c : ℕ) → Shape P ws d c → Shape P vs d c
-  shape-same P G ws vs e (leaf p ts h u) c Q = (Q .0, record { given = Q .1 .given; word = sym (e (Q .0) (Q .1 .given)) ∙ Q .1 .word }, Q .2)
+  shape-same : (P : Pack) → Good P → (ws vs : List ℕ) → Agree P ws vs → {j : Tree} (d : Derivation P j) (c : ℕ) → Shape P ws d c → Shape P vs d c
+  shape-same P G ws vs e (leaf p ts h u) c Q = (Q .0, record { given = Q .1 .given; word = sym (e (Q .0) 0 (Q .1 .given)) ∙ Q .1 .word }, Q .2)
   shape-same P G ws vs e (by r ν l fp fc ep ec ds) c Q =
       let s = Q .0 in
-      let below = below-more s (length (P .steps)) (stepOf P s .refs) (omega (arith, Q .1 .given)) (G .steps s (Q .1 .given) .earlier) in
-      let m = classes-same P ws vs e (stepOf P s .refs) below in
-      (s, record { given = Q .1 .given; word = sym (e s (Q .1 .given)) ∙ Q .1 .word }, Q .2, Q .3, subst (Shapes P vs ds) m (shapes-same P G ws vs e ds (map (λ q. getD ws (firstOf P q) 0) (stepOf P s .refs)) (Q .4)))
+      let m = refs-same P G ws vs e 0 s (Q .1 .given) in
+      (s, record { given = Q .1 .given; word = sym (e s 0 (Q .1 .given)) ∙ Q .1 .word }, Q .2, Q .3, subst (Shapes P vs ds) m (shapes-same P G ws vs e ds (map (λ q. getD ws (firstOf P q) 0) (stepOf P s .refs)) (Q .4)))
 
-  shapes-same : (P : Pack) → Good P → (ws vs : List ℕ) → ((s : ℕ) → s < length (P .steps) → getD ws s 0 ≡ getD vs s 0) → {js : Trees} (ds : Derivations P js) (cs : List ℕ) → Shapes P ws ds cs → Shapes P vs ds cs
+  shapes-same : (P : Pack) → Good P → (ws vs : List ℕ) → Agree P ws vs → {js : Trees} (ds : Derivations P js) (cs : List ℕ) → Shapes P ws ds cs → Shapes P vs ds cs
   shapes-same P G ws vs e no-derivations [] Q = tt
   shapes-same P G ws vs e no-derivations (c ∷ cs) Q = absurd Q
   shapes-same P G ws vs e (more d ds) [] Q = absurd Q
@@ -126,17 +140,28 @@ built-principal P G A b B e n m =
     λ c h j N. subst (λ (p : ℕ). InstanceOf P store p j) (sym (conclusion-back P G b n e c h)) (instance-grows P (b .store) store (at c .conclusion) j (B .earlier) grows (inside c h) N) in
     let from : (c : ℕ) → c < length (b .classes) → (j : Tree) → InstanceOf P store (conclusionIn P class c) j → InstanceOf P (b .store) (at c .conclusion) j =
     λ c h j N. instance-before P (b .store) store (at c .conclusion) j (B .earlier) grows (inside c h) (subst (λ (p : ℕ). InstanceOf P store p j) (conclusion-back P G b n e c h) N) in
+    let agree = word-back P G b n in
+    let back : Agree P (keyed P .words) class = λ s d l. sym (agree s d l) in
+    let key : (s : ℕ) → s < length (P .steps) → keyOf P class s ≡ keyOf P (keyed P .words) s = key-same P G class (keyed P .words) agree in
     record {
       held = λ s l h.
-          let w = word-back P G b n s l in
+          let w = agree s 0 l in
           let c = K .0 .classed s (omega (arith, K .1)) h .0 in
           let i : getD class s 0 < length (b .classes) = omega arith in
           let d = subst (λ (k : ℕ). Concludes P (keyed P .words) k (treeOf P (stepOf P s .judgment))) (sym w) (step-derived P G A s l h) in
           (i, to (getD class s 0) i (treeOf P (stepOf P s .judgment)) (B .classes (getD class s 0) i .instances (treeOf P (stepOf P s .judgment)) d));
-      wide = λ c h j q d. to c h j (B .classes c h .instances j (d .0, shape-same P G class (keyed P .words) (word-back P G b n) (d .0) c (d .1)));
+      wide = λ c h j q d. to c h j (B .classes c h .instances j (d .0, shape-same P G class (keyed P .words) agree (d .0) c (d .1)));
       narrow = λ c h j q N.
           let d = B .classes c h .derived j (from c h j N) in
-          (d .0, shape-same P G (keyed P .words) class (λ s l. sym (word-back P G b n s l)) (d .0) c (d .1));
+          (d .0, shape-same P G (keyed P .words) class back (d .0) c (d .1));
+      one = λ s t hs ht ns nt e. agree s 0 hs ∙ same-class P G s t hs ht ns nt .1 (sym (key s hs) ∙ e ∙ key t ht) ∙ back t 0 ht;
+      apart = λ s t hs ht ns nt e. key s hs ∙ same-class P G s t hs ht ns nt .0 (back s 0 hs ∙ e ∙ agree t 0 ht) ∙ sym (key t ht);
+      unneeded = λ s l h. agree s 0 l ∙ K .0 .unneeded s (omega (arith, K .1)) h;
+      begun = λ c h.
+          let F = K .0 .begun c (omega (arith, e)) in
+          let s = getD (keyed P .classes) c noKeyed .first in
+          let l : s < length (P .steps) = omega (arith, F .0, K .1) in
+          (s, l, F .1, agree s 0 l ∙ F .2);
     }
 
 -- a record takes bytes

@@ -1,6 +1,6 @@
 -- Demand 3, of the words that class building writes: what they must say of the pack's bytes.
 use mathlib.Core.Path.{_≡_}
-use mathlib.Core.Bool.{true}
+use mathlib.Core.Bool.{true, false}
 use mathlib.Core.List.{List}
 use mathlib.Core.Option.{none}
 use Prim.Native.Nat.{ℕ, zero, suc, _<_}
@@ -8,14 +8,14 @@ use lib.Dec.{eqb}
 use lib.ListN.{length, getD, drop}
 use Rattle.definition.specs.Test.{any}
 use Rattle.definition.specs.Pack.{Node, Pack, stepOf}
-use Rattle.definition.specs.Store.{nodesIn}
+use Rattle.definition.specs.Store.{nothing, nodesIn}
 use Rattle.definition.specs.Tree.{Tree, treeOf}
 use Rattle.definition.specs.Frame.{fine}
 use Rattle.definition.specs.Parse.{parse}
 use Rattle.definition.specs.Verdict.{Accepted}
 use Rattle.definition.specs.Answer.{answer, lengths}
 use Rattle.definition.specs.Run.{LongEnough}
-use Rattle.definition.specs.Keys.{needed}
+use Rattle.definition.specs.Keys.{needed, keyOf}
 use Rattle.definition.specs.Calls.{classRun, classesLent, Left}
 use Rattle.theory.specs.Derive.{Judgment, InstanceOf, Derivation, Shape}
 
@@ -46,6 +46,14 @@ pub record Principal (P : Pack) (n : ℕ) (class pattern : List ℕ) : Type 0 wh
   -- some derivation of the class's shape concludes it": the conclusion is wide enough, and it is narrow enough
   pub wide : (c : ℕ) → c < n → (j : Tree) → Judgment P j → Concluded P class c j → InstanceOf P (patternsIn pattern) (conclusionIn P class c) j
   pub narrow : (c : ℕ) → c < n → (j : Tree) → Judgment P j → InstanceOf P (patternsIn pattern) (conclusionIn P class c) j → Concluded P class c j
+  -- "a step's class (the same for two needed steps just when their keys, or their cut predicates, are equal)", keys being read in the
+  -- words written: equal keys have one class, and one class has equal keys
+  pub one : (s t : ℕ) → s < length (P .steps) → t < length (P .steps) → any (eqb s) (needed P) ≡ true → any (eqb t) (needed P) ≡ true → keyOf P class s ≡ keyOf P class t → getD class s 0 ≡ getD class t 0
+  pub apart : (s t : ℕ) → s < length (P .steps) → t < length (P .steps) → any (eqb s) (needed P) ≡ true → any (eqb t) (needed P) ≡ true → getD class s 0 ≡ getD class t 0 → keyOf P class s ≡ keyOf P class t
+  -- "each step's class (2^32−1 if unneeded)": so a class's rule and refs are those of needed steps
+  pub unneeded : (s : ℕ) → s < length (P .steps) → any (eqb s) (needed P) ≡ false → getD class s 0 ≡ nothing
+  -- "every class written" is some needed step's
+  pub begun : (c : ℕ) → c < n → (s : ℕ) × (s < length (P .steps)) × (any (eqb s) (needed P) ≡ true) × (getD class s 0 ≡ c)
 
 -- demand 3 of a class call: if the step check accepts the pack, "and the buffers are long enough and within document 01's limits,
 -- then class building never refuses", and what it writes is principal

@@ -5,19 +5,20 @@ use Prim.Native.Nat.{_+_}
 use Rattle.definition.specs.Pack.{prop}
 use Rattle.definition.specs.Store.{nothing, variableHead}
 use Rattle.definition.specs.Rows.Say.{sort, symbol, rule, node, step, goal, result, cut, abstract, X}
-use Rattle.definition.specs.Rows.Row.{Row, classes, built, Claim, seen, Holds}
+use Rattle.definition.specs.Rows.Packs.{natRules, example, circling, clashing, unmet}
+use Rattle.definition.specs.Rows.Row.{Row, classes, built, slotted, Claim, seen, Holds}
 
--- ★ the empty pack: no class
-abbrev empty-classes : Row
-empty-classes = classes ([]) 0 0 0 100000 0 0
+-- ★ the empty pack: no class, no word, no figure
+abbrev empty-built : Row
+empty-built = built [] 0 [] [] (0 ∷ 0 ∷ 0 ∷ 0 ∷ 0 ∷ 0 ∷ 0 ∷ 0 ∷ 0 ∷ 0 ∷ 0 ∷ 0 ∷ 0 ∷ [])
 
-empty-classes-holds : Claim empty-classes
+empty-built-holds : Claim empty-built
 unfolding seen
-empty-classes-holds = refl
+empty-built-holds = refl
 
 -- ★ the worked example: its words and figures
 abbrev example-built : Row
-example-built = built (sort "Nat" ++ symbol 0 [] "z" ++ symbol 0 (0 ∷ []) "s" ++ symbol prop (0 ∷ []) "nat" ++ symbol prop (0 ∷ []) "pos" ++ rule [] 0 (2 ∷ 0 ∷ []) "nz" ++ rule (0 ∷ []) 1 (2 ∷ X ∷ 2 ∷ 1 ∷ X ∷ []) "ns" ++ rule (0 ∷ []) 1 (2 ∷ X ∷ 3 ∷ 1 ∷ X ∷ []) "pos" ++ node (0 ∷ []) ++ node (1 ∷ 0 ∷ []) ++ node (1 ∷ 1 ∷ []) ++ node (3 ∷ 2 ∷ []) ++ node (2 ∷ 0 ∷ []) ++ node (2 ∷ 1 ∷ []) ++ step (0 ∷ 4 ∷ []) ++ step (1 ∷ 5 ∷ 0 ∷ []) ++ step (2 ∷ 3 ∷ 1 ∷ []) ++ goal 3 "g" ++ result 2 "g" ++ cut (2 ∷ [])) 10 (nothing ∷ 0 ∷ 1 ∷ 1 ∷ 1 ∷ 1 ∷ 1 ∷ 3 ∷ 1 ∷ 1 ∷ 1 ∷ []) (2 ∷ variableHead ∷ 0 ∷ 0 ∷ 1 ∷ 2 ∷ 0 ∷ 1 ∷ 1 ∷ 0 ∷ 1 ∷ 3 ∷ 2 ∷ []) (2 ∷ 2 ∷ 6 ∷ 4 ∷ 1 ∷ 1 ∷ 0 ∷ 1 ∷ 1 ∷ 2 ∷ 0 ∷ 0 ∷ 0 ∷ [])
+example-built = built (example) 10 (nothing ∷ 0 ∷ 1 ∷ 1 ∷ 1 ∷ 1 ∷ 1 ∷ 3 ∷ 1 ∷ 1 ∷ 1 ∷ []) (2 ∷ variableHead ∷ 0 ∷ 0 ∷ 1 ∷ 2 ∷ 0 ∷ 1 ∷ 1 ∷ 0 ∷ 1 ∷ 3 ∷ 2 ∷ []) (2 ∷ 2 ∷ 6 ∷ 4 ∷ 1 ∷ 1 ∷ 0 ∷ 1 ∷ 1 ∷ 2 ∷ 0 ∷ 0 ∷ 0 ∷ [])
 
 example-built-holds : Claim example-built
 unfolding seen
@@ -25,7 +26,7 @@ example-built-holds = refl
 
 -- ★ premise p(X, s X) over a step from the rule p(X, X)
 abbrev circle-classes : Row
-circle-classes = classes (sort "N" ++ symbol 0 [] "z" ++ symbol 0 (0 ∷ []) "s" ++ symbol prop (0 ∷ 0 ∷ []) "p" ++ symbol prop [] "q" ++ rule (0 ∷ []) 0 (2 ∷ X ∷ X ∷ []) "e" ++ rule (0 ∷ []) 1 (2 ∷ X ∷ 1 ∷ X ∷ 3 ∷ []) "c" ++ node (0 ∷ []) ++ node (2 ∷ 0 ∷ 0 ∷ []) ++ node (3 ∷ []) ++ step (0 ∷ 1 ∷ []) ++ step (1 ∷ 2 ∷ 0 ∷ []) ++ result 1 "r") 1000 1000 1000 100000 6 1
+circle-classes = classes (circling) 1000 1000 1000 100000 6 1
 
 circle-classes-holds : Claim circle-classes
 unfolding seen
@@ -33,7 +34,7 @@ circle-classes-holds = refl
 
 -- ★ premise p(z) over the step p(s z) from the rule p(s X)
 abbrev clash-classes : Row
-clash-classes = classes (sort "N" ++ symbol 0 [] "z" ++ symbol 0 (0 ∷ []) "s" ++ symbol prop (0 ∷ []) "p" ++ symbol prop [] "q" ++ rule (0 ∷ []) 0 (2 ∷ 1 ∷ X ∷ []) "e" ++ rule [] 1 (2 ∷ 0 ∷ 3 ∷ []) "c" ++ node (0 ∷ []) ++ node (1 ∷ 0 ∷ []) ++ node (2 ∷ 1 ∷ []) ++ node (3 ∷ []) ++ step (0 ∷ 2 ∷ []) ++ step (1 ∷ 3 ∷ 0 ∷ []) ++ result 1 "r") 1000 1000 1000 100000 5 1
+clash-classes = classes (clashing) 1000 1000 1000 100000 5 1
 
 clash-classes-holds : Claim clash-classes
 unfolding seen
@@ -41,7 +42,7 @@ clash-classes-holds = refl
 
 -- ★ nat(z) twice, the second used: the first gets the class
 abbrev twice-built : Row
-twice-built = built (sort "Nat" ++ symbol 0 [] "z" ++ symbol 0 (0 ∷ []) "s" ++ symbol prop (0 ∷ []) "nat" ++ symbol prop (0 ∷ []) "pos" ++ rule [] 0 (2 ∷ 0 ∷ []) "nz" ++ rule (0 ∷ []) 1 (2 ∷ X ∷ 2 ∷ 1 ∷ X ∷ []) "ns" ++ rule (0 ∷ []) 1 (2 ∷ X ∷ 3 ∷ 1 ∷ X ∷ []) "pos" ++ node (0 ∷ []) ++ node (1 ∷ 0 ∷ []) ++ node (3 ∷ 1 ∷ []) ++ node (2 ∷ 0 ∷ []) ++ step (0 ∷ 3 ∷ []) ++ step (0 ∷ 3 ∷ []) ++ step (2 ∷ 2 ∷ 1 ∷ []) ++ goal 2 "g" ++ result 2 "g") 10 (0 ∷ nothing ∷ 1 ∷ 1 ∷ 1 ∷ 0 ∷ 3 ∷ 1 ∷ 0 ∷ []) (0 ∷ 0 ∷ 1 ∷ 2 ∷ 0 ∷ 1 ∷ 1 ∷ 0 ∷ 1 ∷ 3 ∷ 2 ∷ []) (2 ∷ 2 ∷ 4 ∷ 4 ∷ 0 ∷ 0 ∷ 0 ∷ 0 ∷ 0 ∷ 2 ∷ 0 ∷ 0 ∷ 0 ∷ [])
+twice-built = built (natRules ++ node (0 ∷ []) ++ node (1 ∷ 0 ∷ []) ++ node (3 ∷ 1 ∷ []) ++ node (2 ∷ 0 ∷ []) ++ step (0 ∷ 3 ∷ []) ++ step (0 ∷ 3 ∷ []) ++ step (2 ∷ 2 ∷ 1 ∷ []) ++ goal 2 "g" ++ result 2 "g") 10 (0 ∷ nothing ∷ 1 ∷ 1 ∷ 1 ∷ 0 ∷ 3 ∷ 1 ∷ 0 ∷ []) (0 ∷ 0 ∷ 1 ∷ 2 ∷ 0 ∷ 1 ∷ 1 ∷ 0 ∷ 1 ∷ 3 ∷ 2 ∷ []) (2 ∷ 2 ∷ 4 ∷ 4 ∷ 0 ∷ 0 ∷ 0 ∷ 0 ∷ 0 ∷ 2 ∷ 0 ∷ 0 ∷ 0 ∷ [])
 
 twice-built-holds : Claim twice-built
 unfolding seen
@@ -49,7 +50,7 @@ twice-built-holds = refl
 
 -- the first step counts, whatever its rule
 abbrev first-rule-built : Row
-first-rule-built = built (sort "Nat" ++ symbol 0 [] "z" ++ symbol 0 (0 ∷ []) "s" ++ symbol prop (0 ∷ []) "nat" ++ symbol prop (0 ∷ []) "pos" ++ rule [] 0 (2 ∷ 0 ∷ []) "nz" ++ rule (0 ∷ []) 1 (2 ∷ X ∷ 2 ∷ 1 ∷ X ∷ []) "ns" ++ rule (0 ∷ []) 1 (2 ∷ X ∷ 3 ∷ 1 ∷ X ∷ []) "pos" ++ rule (0 ∷ []) 1 (2 ∷ X ∷ 2 ∷ X ∷ []) "nn" ++ node (0 ∷ []) ++ node (1 ∷ 0 ∷ []) ++ node (3 ∷ 1 ∷ []) ++ node (2 ∷ 0 ∷ []) ++ step (0 ∷ 3 ∷ []) ++ step (3 ∷ 3 ∷ 0 ∷ []) ++ step (2 ∷ 2 ∷ 1 ∷ []) ++ goal 2 "g" ++ result 2 "g" ++ result 1 "h") 10 (0 ∷ nothing ∷ 1 ∷ 1 ∷ 1 ∷ 0 ∷ 3 ∷ 1 ∷ 0 ∷ []) (0 ∷ 0 ∷ 1 ∷ 2 ∷ 0 ∷ 1 ∷ 1 ∷ 0 ∷ 1 ∷ 3 ∷ 2 ∷ []) (2 ∷ 2 ∷ 4 ∷ 4 ∷ 0 ∷ 0 ∷ 0 ∷ 0 ∷ 0 ∷ 2 ∷ 0 ∷ 0 ∷ 0 ∷ [])
+first-rule-built = built (natRules ++ rule (0 ∷ []) 1 (2 ∷ X ∷ 2 ∷ X ∷ []) "nn" ++ node (0 ∷ []) ++ node (1 ∷ 0 ∷ []) ++ node (3 ∷ 1 ∷ []) ++ node (2 ∷ 0 ∷ []) ++ step (0 ∷ 3 ∷ []) ++ step (3 ∷ 3 ∷ 0 ∷ []) ++ step (2 ∷ 2 ∷ 1 ∷ []) ++ goal 2 "g" ++ result 2 "g" ++ result 1 "h") 10 (0 ∷ nothing ∷ 1 ∷ 1 ∷ 1 ∷ 0 ∷ 3 ∷ 1 ∷ 0 ∷ []) (0 ∷ 0 ∷ 1 ∷ 2 ∷ 0 ∷ 1 ∷ 1 ∷ 0 ∷ 1 ∷ 3 ∷ 2 ∷ []) (2 ∷ 2 ∷ 4 ∷ 4 ∷ 0 ∷ 0 ∷ 0 ∷ 0 ∷ 0 ∷ 2 ∷ 0 ∷ 0 ∷ 0 ∷ [])
 
 first-rule-built-holds : Claim first-rule-built
 unfolding seen
@@ -65,7 +66,7 @@ two-cut-built-holds = refl
 
 -- ★ a goal without a result
 abbrev goal-unmet : Row
-goal-unmet = classes (sort "Nat" ++ symbol 0 [] "z" ++ symbol 0 (0 ∷ []) "s" ++ symbol prop (0 ∷ []) "nat" ++ symbol prop (0 ∷ []) "pos" ++ rule [] 0 (2 ∷ 0 ∷ []) "nz" ++ rule (0 ∷ []) 1 (2 ∷ X ∷ 2 ∷ 1 ∷ X ∷ []) "ns" ++ rule (0 ∷ []) 1 (2 ∷ X ∷ 3 ∷ 1 ∷ X ∷ []) "pos" ++ node (0 ∷ []) ++ node (1 ∷ 0 ∷ []) ++ node (1 ∷ 1 ∷ []) ++ node (2 ∷ 0 ∷ []) ++ node (2 ∷ 1 ∷ []) ++ node (3 ∷ 2 ∷ []) ++ step (0 ∷ 3 ∷ []) ++ goal 3 "g" ++ result 0 "h") 1000 1000 1000 100000 4 0
+goal-unmet = classes (unmet) 1000 1000 1000 100000 4 0
 
 goal-unmet-holds : Claim goal-unmet
 unfolding seen
@@ -111,8 +112,16 @@ abstract-built-holds : Claim abstract-built
 unfolding seen
 abstract-built-holds = refl
 
+-- ★ counts 1, 2, 9, 10, 99, 100: "slots 0, 1, 1, 2, 2, 3", and how many classes each slot counts
+abbrev counts-slotted : Row
+counts-slotted = slotted (1 ∷ 2 ∷ 9 ∷ 10 ∷ 99 ∷ 100 ∷ []) (0 ∷ 1 ∷ 1 ∷ 2 ∷ 2 ∷ 3 ∷ []) (1 ∷ 2 ∷ 2 ∷ 1 ∷ [])
+
+counts-slotted-holds : Claim counts-slotted
+unfolding seen
+counts-slotted-holds = refl
+
 abbrev pub rows : List Row
-rows = empty-classes ∷ example-built ∷ circle-classes ∷ clash-classes ∷ twice-built ∷ first-rule-built ∷ two-cut-built ∷ goal-unmet ∷ stop-built ∷ premise-built ∷ fixed-built ∷ trees-built ∷ abstract-built ∷ []
+rows = empty-built ∷ example-built ∷ circle-classes ∷ clash-classes ∷ twice-built ∷ first-rule-built ∷ two-cut-built ∷ goal-unmet ∷ stop-built ∷ premise-built ∷ fixed-built ∷ trees-built ∷ abstract-built ∷ counts-slotted ∷ []
 
 pub hold : Holds rows
-hold = (empty-classes-holds, (example-built-holds, (circle-classes-holds, (clash-classes-holds, (twice-built-holds, (first-rule-built-holds, (two-cut-built-holds, (goal-unmet-holds, (stop-built-holds, (premise-built-holds, (fixed-built-holds, (trees-built-holds, (abstract-built-holds, tt)))))))))))))
+hold = (empty-built-holds, (example-built-holds, (circle-classes-holds, (clash-classes-holds, (twice-built-holds, (first-rule-built-holds, (two-cut-built-holds, (goal-unmet-holds, (stop-built-holds, (premise-built-holds, (fixed-built-holds, (trees-built-holds, (abstract-built-holds, (counts-slotted-holds, tt))))))))))))))

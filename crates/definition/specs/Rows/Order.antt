@@ -3,6 +3,7 @@ use mathlib.Core.Path.{refl}
 use mathlib.Core.List.{List, [], _∷_, _++_}
 use Rattle.definition.specs.Pack.{prop}
 use Rattle.definition.specs.Rows.Say.{bytes, sort, symbol, rule, node, step, goal, result, cut, X}
+use Rattle.definition.specs.Rows.Packs.{natNodes, example, circling, clashing}
 use Rattle.definition.specs.Rows.Row.{Row, classes, shown, Claim, seen, Holds}
 
 -- the refs' judgments together are no instance
@@ -31,7 +32,7 @@ clash-first-holds = refl
 
 -- a goal's judgment that is no instance: the place is the result's step
 abbrev goal-instance : Row
-goal-instance = classes (sort "Nat" ++ symbol 0 [] "z" ++ symbol 0 (0 ∷ []) "s" ++ symbol prop (0 ∷ []) "nat" ++ symbol prop (0 ∷ []) "pos" ++ rule [] 0 (2 ∷ 0 ∷ []) "nz" ++ rule (0 ∷ []) 1 (2 ∷ X ∷ 2 ∷ 1 ∷ X ∷ []) "ns" ++ rule (0 ∷ []) 1 (2 ∷ X ∷ 3 ∷ 1 ∷ X ∷ []) "pos" ++ node (0 ∷ []) ++ node (1 ∷ 0 ∷ []) ++ node (1 ∷ 1 ∷ []) ++ node (2 ∷ 0 ∷ []) ++ node (2 ∷ 1 ∷ []) ++ node (3 ∷ 2 ∷ []) ++ step (0 ∷ 3 ∷ []) ++ step (0 ∷ 4 ∷ []) ++ step (1 ∷ 4 ∷ 0 ∷ []) ++ goal 4 "g" ++ result 2 "g") 1000 1000 1000 100000 7 2
+goal-instance = classes (natNodes ++ step (0 ∷ 3 ∷ []) ++ step (0 ∷ 4 ∷ []) ++ step (1 ∷ 4 ∷ 0 ∷ []) ++ goal 4 "g" ++ result 2 "g") 1000 1000 1000 100000 7 2
 
 goal-instance-holds : Claim goal-instance
 unfolding seen
@@ -39,7 +40,7 @@ goal-instance-holds = refl
 
 -- a result with another judgment
 abbrev goal-judgment : Row
-goal-judgment = classes (sort "Nat" ++ symbol 0 [] "z" ++ symbol 0 (0 ∷ []) "s" ++ symbol prop (0 ∷ []) "nat" ++ symbol prop (0 ∷ []) "pos" ++ rule [] 0 (2 ∷ 0 ∷ []) "nz" ++ rule (0 ∷ []) 1 (2 ∷ X ∷ 2 ∷ 1 ∷ X ∷ []) "ns" ++ rule (0 ∷ []) 1 (2 ∷ X ∷ 3 ∷ 1 ∷ X ∷ []) "pos" ++ node (0 ∷ []) ++ node (1 ∷ 0 ∷ []) ++ node (1 ∷ 1 ∷ []) ++ node (2 ∷ 0 ∷ []) ++ node (2 ∷ 1 ∷ []) ++ node (3 ∷ 2 ∷ []) ++ step (0 ∷ 3 ∷ []) ++ goal 4 "g" ++ result 0 "g") 1000 1000 1000 100000 4 0
+goal-judgment = classes (natNodes ++ step (0 ∷ 3 ∷ []) ++ goal 4 "g" ++ result 0 "g") 1000 1000 1000 100000 4 0
 
 goal-judgment-holds : Claim goal-judgment
 unfolding seen
@@ -63,7 +64,7 @@ unused-short-holds = refl
 
 -- without results nothing is needed
 abbrev no-results : Row
-no-results = classes (sort "Nat" ++ symbol 0 [] "z" ++ symbol 0 (0 ∷ []) "s" ++ symbol prop (0 ∷ []) "nat" ++ symbol prop (0 ∷ []) "pos" ++ rule [] 0 (2 ∷ 0 ∷ []) "nz" ++ rule (0 ∷ []) 1 (2 ∷ X ∷ 2 ∷ 1 ∷ X ∷ []) "ns" ++ rule (0 ∷ []) 1 (2 ∷ X ∷ 3 ∷ 1 ∷ X ∷ []) "pos" ++ node (0 ∷ []) ++ node (1 ∷ 0 ∷ []) ++ node (1 ∷ 1 ∷ []) ++ node (2 ∷ 0 ∷ []) ++ node (2 ∷ 1 ∷ []) ++ node (3 ∷ 2 ∷ []) ++ step (0 ∷ 3 ∷ [])) 1 0 0 100000 0 0
+no-results = classes (natNodes ++ step (0 ∷ 3 ∷ [])) 1 0 0 100000 0 0
 
 no-results-holds : Claim no-results
 unfolding seen
@@ -71,7 +72,7 @@ no-results-holds = refl
 
 -- step words are written first
 abbrev step-words : Row
-step-words = classes (sort "Nat" ++ symbol 0 [] "z" ++ symbol 0 (0 ∷ []) "s" ++ symbol prop (0 ∷ []) "nat" ++ symbol prop (0 ∷ []) "pos" ++ rule [] 0 (2 ∷ 0 ∷ []) "nz" ++ rule (0 ∷ []) 1 (2 ∷ X ∷ 2 ∷ 1 ∷ X ∷ []) "ns" ++ rule (0 ∷ []) 1 (2 ∷ X ∷ 3 ∷ 1 ∷ X ∷ []) "pos" ++ node (0 ∷ []) ++ node (1 ∷ 0 ∷ []) ++ node (1 ∷ 1 ∷ []) ++ node (2 ∷ 0 ∷ []) ++ node (2 ∷ 1 ∷ []) ++ node (3 ∷ 2 ∷ []) ++ step (0 ∷ 4 ∷ []) ++ result 0 "r") 0 0 0 100000 8 1
+step-words = classes (natNodes ++ step (0 ∷ 4 ∷ []) ++ result 0 "r") 0 0 0 100000 8 1
 
 step-words-holds : Claim step-words
 unfolding seen
@@ -79,7 +80,7 @@ step-words-holds = refl
 
 -- the graph comes ahead of patterns
 abbrev graph-first : Row
-graph-first = classes (sort "Nat" ++ symbol 0 [] "z" ++ symbol 0 (0 ∷ []) "s" ++ symbol prop (0 ∷ []) "nat" ++ symbol prop (0 ∷ []) "pos" ++ rule [] 0 (2 ∷ 0 ∷ []) "nz" ++ rule (0 ∷ []) 1 (2 ∷ X ∷ 2 ∷ 1 ∷ X ∷ []) "ns" ++ rule (0 ∷ []) 1 (2 ∷ X ∷ 3 ∷ 1 ∷ X ∷ []) "pos" ++ node (0 ∷ []) ++ node (1 ∷ 0 ∷ []) ++ node (1 ∷ 1 ∷ []) ++ node (2 ∷ 0 ∷ []) ++ node (2 ∷ 1 ∷ []) ++ node (3 ∷ 2 ∷ []) ++ step (0 ∷ 3 ∷ []) ++ result 0 "r") 1 0 0 100000 8 3
+graph-first = classes (natNodes ++ step (0 ∷ 3 ∷ []) ++ result 0 "r") 1 0 0 100000 8 3
 
 graph-first-holds : Claim graph-first
 unfolding seen
@@ -87,7 +88,7 @@ graph-first-holds = refl
 
 -- patterns come ahead of the row
 abbrev patterns-first : Row
-patterns-first = classes (sort "Nat" ++ symbol 0 [] "z" ++ symbol 0 (0 ∷ []) "s" ++ symbol prop (0 ∷ []) "nat" ++ symbol prop (0 ∷ []) "pos" ++ rule [] 0 (2 ∷ 0 ∷ []) "nz" ++ rule (0 ∷ []) 1 (2 ∷ X ∷ 2 ∷ 1 ∷ X ∷ []) "ns" ++ rule (0 ∷ []) 1 (2 ∷ X ∷ 3 ∷ 1 ∷ X ∷ []) "pos" ++ node (0 ∷ []) ++ node (1 ∷ 0 ∷ []) ++ node (1 ∷ 1 ∷ []) ++ node (2 ∷ 0 ∷ []) ++ node (2 ∷ 1 ∷ []) ++ node (3 ∷ 2 ∷ []) ++ step (0 ∷ 3 ∷ []) ++ result 0 "r") 1 0 100 100000 8 2
+patterns-first = classes (natNodes ++ step (0 ∷ 3 ∷ []) ++ result 0 "r") 1 0 100 100000 8 2
 
 patterns-first-holds : Claim patterns-first
 unfolding seen
@@ -95,7 +96,7 @@ patterns-first-holds = refl
 
 -- the row comes last
 abbrev row-last : Row
-row-last = classes (sort "Nat" ++ symbol 0 [] "z" ++ symbol 0 (0 ∷ []) "s" ++ symbol prop (0 ∷ []) "nat" ++ symbol prop (0 ∷ []) "pos" ++ rule [] 0 (2 ∷ 0 ∷ []) "nz" ++ rule (0 ∷ []) 1 (2 ∷ X ∷ 2 ∷ 1 ∷ X ∷ []) "ns" ++ rule (0 ∷ []) 1 (2 ∷ X ∷ 3 ∷ 1 ∷ X ∷ []) "pos" ++ node (0 ∷ []) ++ node (1 ∷ 0 ∷ []) ++ node (1 ∷ 1 ∷ []) ++ node (2 ∷ 0 ∷ []) ++ node (2 ∷ 1 ∷ []) ++ node (3 ∷ 2 ∷ []) ++ step (0 ∷ 3 ∷ []) ++ result 0 "r") 1 100 100 100000 8 1
+row-last = classes (natNodes ++ step (0 ∷ 3 ∷ []) ++ result 0 "r") 1 100 100 100000 8 1
 
 row-last-holds : Claim row-last
 unfolding seen
@@ -103,7 +104,7 @@ row-last-holds = refl
 
 -- a cut class has no graph
 abbrev cut-patterns : Row
-cut-patterns = classes (sort "Nat" ++ symbol 0 [] "z" ++ symbol 0 (0 ∷ []) "s" ++ symbol prop (0 ∷ []) "nat" ++ symbol prop (0 ∷ []) "pos" ++ rule [] 0 (2 ∷ 0 ∷ []) "nz" ++ rule (0 ∷ []) 1 (2 ∷ X ∷ 2 ∷ 1 ∷ X ∷ []) "ns" ++ rule (0 ∷ []) 1 (2 ∷ X ∷ 3 ∷ 1 ∷ X ∷ []) "pos" ++ node (0 ∷ []) ++ node (1 ∷ 0 ∷ []) ++ node (1 ∷ 1 ∷ []) ++ node (2 ∷ 0 ∷ []) ++ node (2 ∷ 1 ∷ []) ++ node (3 ∷ 2 ∷ []) ++ step (0 ∷ 3 ∷ []) ++ result 0 "r" ++ cut (2 ∷ [])) 1 0 0 100000 8 2
+cut-patterns = classes (natNodes ++ step (0 ∷ 3 ∷ []) ++ result 0 "r" ++ cut (2 ∷ [])) 1 0 0 100000 8 2
 
 cut-patterns-holds : Claim cut-patterns
 unfolding seen
@@ -111,7 +112,7 @@ cut-patterns-holds = refl
 
 -- a clash comes ahead of the next premise's cells, and behind its own
 abbrev clash-cells : Row
-clash-cells = classes (sort "N" ++ symbol 0 [] "z" ++ symbol 0 (0 ∷ []) "s" ++ symbol prop (0 ∷ []) "p" ++ symbol prop [] "q" ++ rule (0 ∷ []) 0 (2 ∷ 1 ∷ X ∷ []) "e" ++ rule [] 1 (2 ∷ 0 ∷ 3 ∷ []) "c" ++ node (0 ∷ []) ++ node (1 ∷ 0 ∷ []) ++ node (2 ∷ 1 ∷ []) ++ node (3 ∷ []) ++ step (0 ∷ 2 ∷ []) ++ step (1 ∷ 3 ∷ 0 ∷ []) ++ result 1 "r") 100 100 5 100000 8 3
+clash-cells = classes (clashing) 100 100 5 100000 8 3
 
 clash-cells-holds : Claim clash-cells
 unfolding seen
@@ -119,7 +120,7 @@ clash-cells-holds = refl
 
 -- and with them it is the clash
 abbrev clash-enough : Row
-clash-enough = classes (sort "N" ++ symbol 0 [] "z" ++ symbol 0 (0 ∷ []) "s" ++ symbol prop (0 ∷ []) "p" ++ symbol prop [] "q" ++ rule (0 ∷ []) 0 (2 ∷ 1 ∷ X ∷ []) "e" ++ rule [] 1 (2 ∷ 0 ∷ 3 ∷ []) "c" ++ node (0 ∷ []) ++ node (1 ∷ 0 ∷ []) ++ node (2 ∷ 1 ∷ []) ++ node (3 ∷ []) ++ step (0 ∷ 2 ∷ []) ++ step (1 ∷ 3 ∷ 0 ∷ []) ++ result 1 "r") 100 100 8 100000 5 1
+clash-enough = classes (clashing) 100 100 8 100000 5 1
 
 clash-enough-holds : Claim clash-enough
 unfolding seen
@@ -127,7 +128,7 @@ clash-enough-holds = refl
 
 -- a circle comes ahead of the conclusion's cells
 abbrev circle-cells : Row
-circle-cells = classes (sort "N" ++ symbol 0 [] "z" ++ symbol 0 (0 ∷ []) "s" ++ symbol prop (0 ∷ 0 ∷ []) "p" ++ symbol prop [] "q" ++ rule (0 ∷ []) 0 (2 ∷ X ∷ X ∷ []) "e" ++ rule (0 ∷ []) 1 (2 ∷ X ∷ 1 ∷ X ∷ 3 ∷ []) "c" ++ node (0 ∷ []) ++ node (2 ∷ 0 ∷ 0 ∷ []) ++ node (3 ∷ []) ++ step (0 ∷ 1 ∷ []) ++ step (1 ∷ 2 ∷ 0 ∷ []) ++ result 1 "r") 100 100 10 100000 6 1
+circle-cells = classes (circling) 100 100 10 100000 6 1
 
 circle-cells-holds : Claim circle-cells
 unfolding seen
@@ -135,7 +136,7 @@ circle-cells-holds = refl
 
 -- and behind the premises'
 abbrev circle-short : Row
-circle-short = classes (sort "N" ++ symbol 0 [] "z" ++ symbol 0 (0 ∷ []) "s" ++ symbol prop (0 ∷ 0 ∷ []) "p" ++ symbol prop [] "q" ++ rule (0 ∷ []) 0 (2 ∷ X ∷ X ∷ []) "e" ++ rule (0 ∷ []) 1 (2 ∷ X ∷ 1 ∷ X ∷ 3 ∷ []) "c" ++ node (0 ∷ []) ++ node (2 ∷ 0 ∷ 0 ∷ []) ++ node (3 ∷ []) ++ step (0 ∷ 1 ∷ []) ++ step (1 ∷ 2 ∷ 0 ∷ []) ++ result 1 "r") 100 100 8 100000 8 3
+circle-short = classes (circling) 100 100 8 100000 8 3
 
 circle-short-holds : Claim circle-short
 unfolding seen
@@ -143,7 +144,7 @@ circle-short-holds = refl
 
 -- a step that is not needed is not tested
 abbrev unneeded-wrong : Row
-unneeded-wrong = classes (sort "Nat" ++ symbol 0 [] "z" ++ symbol 0 (0 ∷ []) "s" ++ symbol prop (0 ∷ []) "nat" ++ symbol prop (0 ∷ []) "pos" ++ rule [] 0 (2 ∷ 0 ∷ []) "nz" ++ rule (0 ∷ []) 1 (2 ∷ X ∷ 2 ∷ 1 ∷ X ∷ []) "ns" ++ rule (0 ∷ []) 1 (2 ∷ X ∷ 3 ∷ 1 ∷ X ∷ []) "pos" ++ node (0 ∷ []) ++ node (1 ∷ 0 ∷ []) ++ node (1 ∷ 1 ∷ []) ++ node (2 ∷ 0 ∷ []) ++ node (2 ∷ 1 ∷ []) ++ node (3 ∷ 2 ∷ []) ++ step (0 ∷ 4 ∷ []) ++ step (0 ∷ 3 ∷ []) ++ result 1 "r") 1000 1000 1000 100000 0 0
+unneeded-wrong = classes (natNodes ++ step (0 ∷ 4 ∷ []) ++ step (0 ∷ 3 ∷ []) ++ result 1 "r") 1000 1000 1000 100000 0 0
 
 unneeded-wrong-holds : Claim unneeded-wrong
 unfolding seen
@@ -151,7 +152,7 @@ unneeded-wrong-holds = refl
 
 -- the worked example's goal as shown
 abbrev example-shown : Row
-example-shown = shown (sort "Nat" ++ symbol 0 [] "z" ++ symbol 0 (0 ∷ []) "s" ++ symbol prop (0 ∷ []) "nat" ++ symbol prop (0 ∷ []) "pos" ++ rule [] 0 (2 ∷ 0 ∷ []) "nz" ++ rule (0 ∷ []) 1 (2 ∷ X ∷ 2 ∷ 1 ∷ X ∷ []) "ns" ++ rule (0 ∷ []) 1 (2 ∷ X ∷ 3 ∷ 1 ∷ X ∷ []) "pos" ++ node (0 ∷ []) ++ node (1 ∷ 0 ∷ []) ++ node (1 ∷ 1 ∷ []) ++ node (3 ∷ 2 ∷ []) ++ node (2 ∷ 0 ∷ []) ++ node (2 ∷ 1 ∷ []) ++ step (0 ∷ 4 ∷ []) ++ step (1 ∷ 5 ∷ 0 ∷ []) ++ step (2 ∷ 3 ∷ 1 ∷ []) ++ goal 3 "g" ++ result 2 "g" ++ cut (2 ∷ [])) 60 12 (bytes "g (pos (s ?v0))\n?v0 : Nat 1 (s z)\n")
+example-shown = shown (example) 60 12 (bytes "g (pos (s ?v0))\n?v0 : Nat 1 (s z)\n")
 
 example-shown-holds : Claim example-shown
 unfolding seen
@@ -159,7 +160,7 @@ example-shown-holds = refl
 
 -- ★ `(pos (s ?v0))` with budget 1
 abbrev budget-1 : Row
-budget-1 = shown (sort "Nat" ++ symbol 0 [] "z" ++ symbol 0 (0 ∷ []) "s" ++ symbol prop (0 ∷ []) "nat" ++ symbol prop (0 ∷ []) "pos" ++ rule [] 0 (2 ∷ 0 ∷ []) "nz" ++ rule (0 ∷ []) 1 (2 ∷ X ∷ 2 ∷ 1 ∷ X ∷ []) "ns" ++ rule (0 ∷ []) 1 (2 ∷ X ∷ 3 ∷ 1 ∷ X ∷ []) "pos" ++ node (0 ∷ []) ++ node (1 ∷ 0 ∷ []) ++ node (1 ∷ 1 ∷ []) ++ node (3 ∷ 2 ∷ []) ++ node (2 ∷ 0 ∷ []) ++ node (2 ∷ 1 ∷ []) ++ step (0 ∷ 4 ∷ []) ++ step (1 ∷ 5 ∷ 0 ∷ []) ++ step (2 ∷ 3 ∷ 1 ∷ []) ++ goal 3 "g" ++ result 2 "g" ++ cut (2 ∷ [])) 1 12 (bytes "g (pos " ++ 226 ∷ 128 ∷ 166 ∷ [] ++ bytes ")\n?v0 : Nat 1 (s z)\n")
+budget-1 = shown (example) 1 12 (bytes "g (pos " ++ 226 ∷ 128 ∷ 166 ∷ [] ++ bytes ")\n?v0 : Nat 1 (s z)\n")
 
 budget-1-holds : Claim budget-1
 unfolding seen
@@ -167,7 +168,7 @@ budget-1-holds = refl
 
 -- a spent budget
 abbrev budget-0 : Row
-budget-0 = shown (sort "Nat" ++ symbol 0 [] "z" ++ symbol 0 (0 ∷ []) "s" ++ symbol prop (0 ∷ []) "nat" ++ symbol prop (0 ∷ []) "pos" ++ rule [] 0 (2 ∷ 0 ∷ []) "nz" ++ rule (0 ∷ []) 1 (2 ∷ X ∷ 2 ∷ 1 ∷ X ∷ []) "ns" ++ rule (0 ∷ []) 1 (2 ∷ X ∷ 3 ∷ 1 ∷ X ∷ []) "pos" ++ node (0 ∷ []) ++ node (1 ∷ 0 ∷ []) ++ node (1 ∷ 1 ∷ []) ++ node (3 ∷ 2 ∷ []) ++ node (2 ∷ 0 ∷ []) ++ node (2 ∷ 1 ∷ []) ++ step (0 ∷ 4 ∷ []) ++ step (1 ∷ 5 ∷ 0 ∷ []) ++ step (2 ∷ 3 ∷ 1 ∷ []) ++ goal 3 "g" ++ result 2 "g" ++ cut (2 ∷ [])) 0 12 (bytes "g " ++ 226 ∷ 128 ∷ 166 ∷ [] ++ bytes "\n?v0 : Nat 1 (s z)\n")
+budget-0 = shown (example) 0 12 (bytes "g " ++ 226 ∷ 128 ∷ 166 ∷ [] ++ bytes "\n?v0 : Nat 1 (s z)\n")
 
 budget-0-holds : Claim budget-0
 unfolding seen
@@ -175,7 +176,7 @@ budget-0-holds = refl
 
 -- the second budget is for values
 abbrev value-1 : Row
-value-1 = shown (sort "Nat" ++ symbol 0 [] "z" ++ symbol 0 (0 ∷ []) "s" ++ symbol prop (0 ∷ []) "nat" ++ symbol prop (0 ∷ []) "pos" ++ rule [] 0 (2 ∷ 0 ∷ []) "nz" ++ rule (0 ∷ []) 1 (2 ∷ X ∷ 2 ∷ 1 ∷ X ∷ []) "ns" ++ rule (0 ∷ []) 1 (2 ∷ X ∷ 3 ∷ 1 ∷ X ∷ []) "pos" ++ node (0 ∷ []) ++ node (1 ∷ 0 ∷ []) ++ node (1 ∷ 1 ∷ []) ++ node (3 ∷ 2 ∷ []) ++ node (2 ∷ 0 ∷ []) ++ node (2 ∷ 1 ∷ []) ++ step (0 ∷ 4 ∷ []) ++ step (1 ∷ 5 ∷ 0 ∷ []) ++ step (2 ∷ 3 ∷ 1 ∷ []) ++ goal 3 "g" ++ result 2 "g" ++ cut (2 ∷ [])) 60 1 (bytes "g (pos (s ?v0))\n?v0 : Nat 1 (s " ++ 226 ∷ 128 ∷ 166 ∷ [] ++ bytes ")\n")
+value-1 = shown (example) 60 1 (bytes "g (pos (s ?v0))\n?v0 : Nat 1 (s " ++ 226 ∷ 128 ∷ 166 ∷ [] ++ bytes ")\n")
 
 value-1-holds : Claim value-1
 unfolding seen

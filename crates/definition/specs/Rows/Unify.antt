@@ -1,58 +1,10 @@
--- Rows on unification's order and on the histogram's slots.
+-- Rows on unification's order.
 use mathlib.Core.Path.{refl}
 use mathlib.Core.Bool.{true, false}
 use mathlib.Core.List.{List, [], _∷_}
 use Rattle.definition.specs.Store.{nothing}
 use Rattle.definition.specs.Graph.{variableVertex, applied}
-use Rattle.definition.specs.Rows.Row.{Row, slotted, unified, Claim, seen, Holds}
-
--- a class of 1
-abbrev slot-1 : Row
-slot-1 = slotted 1 0
-
-slot-1-holds : Claim slot-1
-unfolding seen
-slot-1-holds = refl
-
--- a class of 2
-abbrev slot-2 : Row
-slot-2 = slotted 2 1
-
-slot-2-holds : Claim slot-2
-unfolding seen
-slot-2-holds = refl
-
--- a class of 9
-abbrev slot-9 : Row
-slot-9 = slotted 9 1
-
-slot-9-holds : Claim slot-9
-unfolding seen
-slot-9-holds = refl
-
--- a class of 10
-abbrev slot-10 : Row
-slot-10 = slotted 10 2
-
-slot-10-holds : Claim slot-10
-unfolding seen
-slot-10-holds = refl
-
--- a class of 99
-abbrev slot-99 : Row
-slot-99 = slotted 99 2
-
-slot-99-holds : Claim slot-99
-unfolding seen
-slot-99-holds = refl
-
--- a class of 100
-abbrev slot-100 : Row
-slot-100 = slotted 100 3
-
-slot-100-holds : Claim slot-100
-unfolding seen
-slot-100-holds = refl
+use Rattle.definition.specs.Rows.Row.{Row, unified, Claim, seen, Holds}
 
 -- a free left side binds first
 abbrev left-binds : Row
@@ -127,7 +79,7 @@ unfolding seen
 joined-first-holds = refl
 
 abbrev pub rows : List Row
-rows = slot-1 ∷ slot-2 ∷ slot-9 ∷ slot-10 ∷ slot-99 ∷ slot-100 ∷ left-binds ∷ right-binds ∷ equal-roots ∷ rigid-right ∷ rigid-left ∷ rigid-both ∷ last-first ∷ last-clash ∷ joined-first ∷ []
+rows = left-binds ∷ right-binds ∷ equal-roots ∷ rigid-right ∷ rigid-left ∷ rigid-both ∷ last-first ∷ last-clash ∷ joined-first ∷ []
 
 pub hold : Holds rows
-hold = (slot-1-holds, (slot-2-holds, (slot-9-holds, (slot-10-holds, (slot-99-holds, (slot-100-holds, (left-binds-holds, (right-binds-holds, (equal-roots-holds, (rigid-right-holds, (rigid-left-holds, (rigid-both-holds, (last-first-holds, (last-clash-holds, (joined-first-holds, tt)))))))))))))))
+hold = (left-binds-holds, (right-binds-holds, (equal-roots-holds, (rigid-right-holds, (rigid-left-holds, (rigid-both-holds, (last-first-holds, (last-clash-holds, (joined-first-holds, tt)))))))))

@@ -4,27 +4,8 @@ use mathlib.Core.List.{List, [], _∷_, _++_}
 use Prim.Native.Nat.{ℕ}
 use Rattle.definition.specs.Pack.{prop}
 use Rattle.definition.specs.Rows.Say.{sort, symbol, rule, node, step, goal, result, cut, X}
+use Rattle.definition.specs.Rows.Packs.{natNodes, example, circling, clashing, unmet}
 use Rattle.definition.specs.Rows.Row.{Row, check, Claim, seen, Holds}
-
--- the worked example's theory
-abbrev natRules : List ℕ
-natRules = sort "Nat" ++ symbol 0 [] "z" ++ symbol 0 (0 ∷ []) "s" ++ symbol prop (0 ∷ []) "nat" ++ symbol prop (0 ∷ []) "pos" ++ rule [] 0 (2 ∷ 0 ∷ []) "nz" ++ rule (0 ∷ []) 1 (2 ∷ X ∷ 2 ∷ 1 ∷ X ∷ []) "ns" ++ rule (0 ∷ []) 1 (2 ∷ X ∷ 3 ∷ 1 ∷ X ∷ []) "pos"
-
--- with its nodes
-abbrev natNodes : List ℕ
-natNodes = natRules ++ node (0 ∷ []) ++ node (1 ∷ 0 ∷ []) ++ node (1 ∷ 1 ∷ []) ++ node (2 ∷ 0 ∷ []) ++ node (2 ∷ 1 ∷ []) ++ node (3 ∷ 2 ∷ [])
-
--- the worked example
-abbrev example : List ℕ
-example = natNodes ++ step (0 ∷ 3 ∷ []) ++ step (1 ∷ 4 ∷ 0 ∷ []) ++ step (2 ∷ 5 ∷ 1 ∷ []) ++ goal 5 "g" ++ result 2 "g" ++ cut (2 ∷ [])
-
--- rules p(X, X) and q from p(X, s X)
-abbrev circles : List ℕ
-circles = sort "N" ++ symbol 0 [] "z" ++ symbol 0 (0 ∷ []) "s" ++ symbol prop (0 ∷ 0 ∷ []) "p" ++ symbol prop [] "q" ++ rule (0 ∷ []) 0 (2 ∷ X ∷ X ∷ []) "e" ++ rule (0 ∷ []) 1 (2 ∷ X ∷ 1 ∷ X ∷ 3 ∷ []) "c" ++ node (0 ∷ []) ++ node (2 ∷ 0 ∷ 0 ∷ []) ++ node (3 ∷ [])
-
--- rules p(s X) and q from p(z)
-abbrev clashes : List ℕ
-clashes = sort "N" ++ symbol 0 [] "z" ++ symbol 0 (0 ∷ []) "s" ++ symbol prop (0 ∷ []) "p" ++ symbol prop [] "q" ++ rule (0 ∷ []) 0 (2 ∷ 1 ∷ X ∷ []) "e" ++ rule [] 1 (2 ∷ 0 ∷ 3 ∷ []) "c" ++ node (0 ∷ []) ++ node (1 ∷ 0 ∷ []) ++ node (2 ∷ 1 ∷ []) ++ node (3 ∷ [])
 
 -- the rule e(X, X), nodes e(z, z) and e(z, s z)
 abbrev equals : List ℕ
@@ -36,7 +17,7 @@ hollow = sort "N" ++ symbol prop [] "q" ++ rule (0 ∷ []) 0 (0 ∷ []) "r" ++ n
 
 -- ★ the worked example, with just enough work
 abbrev example-passes : Row
-example-passes = check (example) 6336 0 0
+example-passes = check example 6336 0 0
 
 example-passes-holds : Claim example-passes
 unfolding seen
@@ -44,7 +25,7 @@ example-passes-holds = refl
 
 -- and with a word too few
 abbrev example-short : Row
-example-short = check (example) 6335 8 4
+example-short = check example 6335 8 4
 
 example-short-holds : Claim example-short
 unfolding seen
@@ -52,7 +33,7 @@ example-short-holds = refl
 
 -- ★ premise p(X, s X) over a step from the rule p(X, X)
 abbrev circle-fails : Row
-circle-fails = check (circles ++ step (0 ∷ 1 ∷ []) ++ step (1 ∷ 2 ∷ 0 ∷ [])) 50000 3 1
+circle-fails = check circling 50000 3 1
 
 circle-fails-holds : Claim circle-fails
 unfolding seen
@@ -60,7 +41,7 @@ circle-fails-holds = refl
 
 -- ★ premise p(z) over the step p(s z) from the rule p(s X)
 abbrev clash-fails : Row
-clash-fails = check (clashes ++ step (0 ∷ 2 ∷ []) ++ step (1 ∷ 3 ∷ 0 ∷ [])) 50000 3 1
+clash-fails = check clashing 50000 3 1
 
 clash-fails-holds : Claim clash-fails
 unfolding seen
@@ -68,7 +49,7 @@ clash-fails-holds = refl
 
 -- ★ a goal without a result
 abbrev no-result : Row
-no-result = check (natNodes ++ step (0 ∷ 3 ∷ []) ++ goal 3 "g" ++ result 0 "h") 50000 4 0
+no-result = check unmet 50000 4 0
 
 no-result-holds : Claim no-result
 unfolding seen
