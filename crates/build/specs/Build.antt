@@ -19,7 +19,7 @@ use Rattle.memo.specs.declared.memo.Memo.{Memo}
 use Rattle.store.specs.declared.nodes.Store.{Store}
 use Rattle.catalog.specs.declared.whole.Catalog.{Catalog}
 use Rattle.pack.specs.Held.{OfHeld}
-use Rattle.kept.specs.Runs.{outcome-fine, outcome-refuse, outcome-return-end}
+use Rattle.theory.specs.Making.Runs.{outcome-fine, outcome-refuse, outcome-return-end}
 use Rattle.key.specs.declared.classes.Keying.{Keying}
 use Rattle.key.specs.declared.classes.Counts.{Counts}
 use Rattle.premise.specs.declared.layout.Layout.{Layout}

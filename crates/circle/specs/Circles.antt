@@ -20,7 +20,8 @@ use Rattle.circle.specs.declared.walk.Turn.the-variants.{On, Circle}
 use Rattle.graph.specs.Cells.{startIn, Laid, Shows, nodes-few}
 use Rattle.graph.specs.Links.{Holds, Found}
 use Rattle.graph.specs.Nodes.{arity-of, argument-there, end-there, ArityOf, ArgumentOf}
-use Rattle.graph.specs.Inner.{Inner, HoldsInner, many-nodes}
+use Rattle.theory.specs.Unification.Inner.{Inner}
+use Rattle.graph.specs.Inner.{HoldsInner, many-nodes}
 use Rattle.circle.specs.Paths.{colourOf, next, Stepped, nodeAt, lookedAt, Standing, Leads, Walk, Last, StillSeen, toDo, var-ends, mark-here, done-still, mark-seen, mark-less, walk-done, grey-seen, grey-less, walk-pushed, last-pushed, walk-looked, circle-there, grey-here, walk-none, top-ends, none-circular, last-done}
 
 -- a variable ends there and then, an application stands on the path

@@ -23,7 +23,7 @@ use Rattle.catalog.specs.Whole.{recordsOf}
 use Rattle.catalog.specs.declared.whole.Catalog.{Catalog}
 use Rattle.pack.specs.Reads.{length-steps}
 use Rattle.lift.specs.Runs.{written-again}
-use Rattle.kept.specs.Runs.{outcome-fine, outcome-refuse, outcome-return-end}
+use Rattle.theory.specs.Making.Runs.{outcome-fine, outcome-refuse, outcome-return-end}
 use Rattle.key.specs.declared.classes.Keying.{Keying}
 use Rattle.key.specs.declared.classes.Counts.{Counts as KeyCounts}
 use Rattle.premise.specs.declared.layout.Layout.{Layout}

@@ -26,7 +26,7 @@ use Rattle.pack.specs.Reads.{length-rules, length-steps}
 use Rattle.pack.specs.Says.{OfPack}
 use Rattle.pack.specs.Held.{Held, OfHeld}
 use Rattle.instantiate.specs.Count.{up-lent, up-first}
-use Rattle.kept.specs.Firsts.{firstStep, first-given, first-made, cut-made, rule-made, predicate-given}
+use Rattle.theory.specs.Making.Firsts.{firstStep, first-given, first-made, cut-made, rule-made, predicate-given}
 use Rattle.key.specs.Words.{firstIn}
 use Rattle.keys.specs.Keyed.{keyed-room}
 use Rattle.key.specs.declared.classes.Keying.{Keying}

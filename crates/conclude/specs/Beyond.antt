@@ -15,7 +15,7 @@ use Rattle.definition.specs.Verdict.{Bound, valueOf, provided, onwards}
 use Rattle.definition.specs.Graph.{Graph, vertex, root, isVar}
 use Rattle.definition.specs.Analysis.{pairing, valueAt, valued}
 use Rattle.theory.specs.Unification.Forest.{Forest, root-inside}
-use Rattle.theory.specs.Walks.Levels.{Inner}
+use Rattle.theory.specs.Unification.Inner.{Inner}
 
 -- these are of numbers below n
 abbrev pub Within : ℕ → List Bound → Type 0

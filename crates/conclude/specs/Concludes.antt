@@ -22,7 +22,7 @@ use Rattle.theory.specs.Copies.Variables.{upTo-below}
 use Rattle.theory.specs.Patterns.Entries.{resolve-keeps}
 use Rattle.theory.specs.Patterns.Interned.{Grows, grows-then, grows-long}
 use Rattle.theory.specs.Walks.Reading.{numberedAs}
-use Rattle.theory.specs.Walks.Levels.{Inner}
+use Rattle.theory.specs.Unification.Inner.{Inner}
 use Rattle.base.specs.Word.{wordOf}
 use Rattle.base.specs.Part.{part, part-at, length-part}
 use Rattle.base.specs.Outside.{Outside, part-behind}
@@ -51,10 +51,10 @@ use Rattle.premise.specs.declared.layout.Layout.{Layout}
 use Rattle.table.specs.Words.{valuesAt, numbersAt, Framed}
 use Rattle.table.specs.Kept.{lifts-on}
 use Rattle.rows.specs.Standing.{liftedOf}
-use Rattle.kept.specs.Circles.{Instance, instance}
-use Rattle.kept.specs.FewArgs.{FewArgs, few-instance}
-use Rattle.kept.specs.ReadBack.{resolve-patterns}
-use Rattle.kept.specs.Values.{Grounded, grounded-value}
+use Rattle.theory.specs.Making.Circles.{Instance, instance}
+use Rattle.theory.specs.Making.FewArgs.{FewArgs, few-instance}
+use Rattle.theory.specs.Making.ReadBack.{resolve-patterns}
+use Rattle.theory.specs.Making.Values.{Grounded, grounded-value}
 use Rattle.conclude.specs.declared.conclude.Ending.{Ending}
 use Rattle.conclude.specs.declared.conclude.Concluded.{Concluded}
 use Rattle.conclude.specs.declared.conclude.Conclusion.{Conclusion}

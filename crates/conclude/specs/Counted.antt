@@ -32,8 +32,8 @@ use Rattle.premise.specs.declared.layout.Layout.{Layout}
 use Rattle.table.specs.Words.{patternsAt, numbersAt, tableEnd, tableIn, marksIn, Framed}
 use Rattle.table.specs.Moved.{table-at, table-long, nodes-most, numbers-most, framed-then, framed-moves, holding-moves}
 use Rattle.rows.specs.Standing.{liftedOf}
-use Rattle.kept.specs.Resolves.{resolve-length}
-use Rattle.kept.specs.Numbers.{number-any}
+use Rattle.theory.specs.Making.Resolves.{resolve-length}
+use Rattle.theory.specs.Making.Numbers.{number-any}
 use Rattle.fixed.specs.Marks.{numbersIn}
 use Rattle.fixed.specs.Whole.{Numbered as Marked, NumbersIn, CountsFixed}
 use Rattle.conclude.specs.declared.top.Back.the-variants as back

@@ -11,7 +11,7 @@ use Rattle.definition.specs.Pack.{Pack}
 use Rattle.definition.specs.Good.{Below}
 use Rattle.definition.specs.Verdict.{Bound, valueOf}
 use Rattle.definition.specs.Graph.{Graph, circular}
-use Rattle.theory.specs.Walks.Levels.{Inner}
+use Rattle.theory.specs.Unification.Inner.{Inner}
 use Rattle.theory.specs.Walks.Reading.{numberedAs}
 use Rattle.theory.specs.Walks.Resolving.{resolving}
 use Rattle.base.specs.Word.{wordOf}
@@ -36,7 +36,7 @@ use Rattle.table.specs.Words.{valuesAt, tableEnd, Lies, Framed}
 use Rattle.table.specs.Kept.{lifts-on}
 use Rattle.resolve.specs.Stacks.{Clears}
 use Rattle.rows.specs.Standing.{liftedOf}
-use Rattle.kept.specs.FewArgs.{FewArgs}
+use Rattle.theory.specs.Making.FewArgs.{FewArgs}
 use Rattle.entries.specs.Entries.{tableOf, Holds}
 
 -- ---- what is asked

@@ -34,7 +34,7 @@ use Rattle.memo.specs.Recall.{recall, length-recall, Remembers}
 use Rattle.store.specs.declared.nodes.Store.{Store}
 use Rattle.memo.specs.declared.memo.Memo.{Memo}
 use Rattle.graph.specs.Cells.{Shows, cells-more, marksIn}
-use Rattle.graph.specs.Inner.{inner-more}
+use Rattle.theory.specs.Unification.Inner.{inner-more}
 use Rattle.fresh.specs.declared.node.Copying.{Copying}
 use Rattle.copy.specs.Held.{indexIn, Room, Holding}
 use Rattle.fresh.specs.Held.{tableIn, rowsAt, rowsIn, Apart, valueIn, orZero, copyIn, Beside}

@@ -19,7 +19,8 @@ use Rattle.memo.specs.Recall.{Remembers}
 use Rattle.store.specs.declared.nodes.Store.{Store}
 use Rattle.memo.specs.declared.memo.Memo.{Memo}
 use Rattle.graph.specs.Cells.{marksIn, Shows}
-use Rattle.graph.specs.Inner.{Inner, HoldsInner}
+use Rattle.theory.specs.Unification.Inner.{Inner}
+use Rattle.graph.specs.Inner.{HoldsInner}
 use Rattle.fresh.specs.declared.node.Copying.{Copying}
 use Rattle.fresh.specs.Held.{tableIn, rowsAt, rowsIn, valueIn, Apart, Beside}
 use Rattle.copy.specs.declared.walk.Copied.{Copied}

@@ -21,7 +21,7 @@ use Rattle.memo.specs.Recall.{recall}
 use Rattle.store.specs.declared.nodes.Store.{Store}
 use Rattle.memo.specs.declared.memo.Memo.{Memo}
 use Rattle.graph.specs.Cells.{restAt, startIn, Shows, rowsEnd, nodes-few, graph-kept, marksIn}
-use Rattle.graph.specs.Inner.{Inner}
+use Rattle.theory.specs.Unification.Inner.{Inner}
 use Rattle.fresh.specs.declared.node.Copying.{Copying}
 use Rattle.copy.specs.declared.walk.Turn.{Turn}
 use Rattle.copy.specs.declared.walk.Turn.the-variants as turns

@@ -21,7 +21,7 @@ use Rattle.lift.specs.Lifts.{Lifts, Apart}
 use Rattle.lift.specs.Runs.{written-again, words-grow}
 use Rattle.lift.specs.declared.walk.Lifted.{Lifted}
 use Rattle.table.specs.Kept.{Interns}
-use Rattle.kept.specs.Interns.{cutTop}
+use Rattle.theory.specs.Making.Interns.{cutTop}
 use Rattle.cut.specs.Fresh.{variablesOf, Freshened, Unfreshened}
 
 -- the conclusion is there: the definition's number and store, with its words written

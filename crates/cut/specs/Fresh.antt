@@ -29,7 +29,7 @@ use Rattle.lift.specs.Nodes.{laid-same}
 use Rattle.lift.specs.Runs.{written-again, words-grow}
 use Rattle.lift.specs.declared.walk.Lifted.{Lifted}
 use Rattle.table.specs.Kept.{Indexed, Interns}
-use Rattle.kept.specs.Interns.{fresh-grows}
+use Rattle.theory.specs.Making.Interns.{fresh-grows}
 use Rattle.cut.specs.declared.conclusion.Fresh.{Fresh}
 use Rattle.cut.specs.declared.conclusion.Fresh.the-variants as fresh
 

@@ -29,8 +29,8 @@ use Rattle.pack.specs.Reads.{Reads, length-symbols}
 use Rattle.pack.specs.Says.{Readable, OfPack}
 use Rattle.pack.specs.Held.{Proper, reads-on}
 use Rattle.theory.specs.Copies.Terms.{Patterns}
-use Rattle.kept.specs.Interns.{Interning, cutTop, cut-patterns}
-use Rattle.kept.specs.Variables.{VariablesBelow, variables-cut}
+use Rattle.theory.specs.Making.Interns.{Interning, cutTop, cut-patterns}
+use Rattle.theory.specs.Making.Variables.{VariablesBelow, variables-cut}
 use Rattle.key.specs.declared.classes.Keying.{Keying}
 use Rattle.key.specs.declared.classes.Counts.{Counts}
 use Rattle.lift.specs.Nodes.{laid-same}

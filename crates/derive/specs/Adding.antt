@@ -38,9 +38,9 @@ use Rattle.graph.specs.declared.graph.Graph.{Graph as Counts}
 use Rattle.graph.specs.Cells.{nodes-few}
 use Rattle.key.specs.declared.classes.Keying.{Keying}
 use Rattle.key.specs.declared.classes.Counts.{Counts as KeyCounts}
-use Rattle.kept.specs.Runs.{outcome-note, outcome-short}
-use Rattle.kept.specs.Resolves.{resolve-most}
-use Rattle.kept.specs.Variables.{VariablesBelow, bounded-then, resolve-bounded}
+use Rattle.theory.specs.Making.Runs.{outcome-note, outcome-short}
+use Rattle.theory.specs.Making.Resolves.{resolve-most}
+use Rattle.theory.specs.Making.Variables.{VariablesBelow, bounded-then, resolve-bounded}
 use Rattle.premise.specs.Layout.{tableIn, copiesAt}
 use Rattle.premise.specs.Joins.{copiesIn}
 use Rattle.premise.specs.declared.layout.Layout.{Layout}

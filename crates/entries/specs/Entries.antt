@@ -37,8 +37,8 @@ use Rattle.resolve.specs.Stacks.{Answers}
 use Rattle.table.specs.declared.words.Table.{Table}
 use Rattle.root.specs.declared.root.Resolved.the-variants as read
 use Rattle.rows.specs.Standing.{liftedOf}
-use Rattle.kept.specs.Resolves.{resolve-nil, resolve-append, resolve-snoc}
-use Rattle.kept.specs.Numbers.{count-snoc}
+use Rattle.theory.specs.Making.Resolves.{resolve-nil, resolve-append, resolve-snoc}
+use Rattle.theory.specs.Making.Numbers.{count-snoc}
 use Rattle.entries.specs.declared.entries.Entries.{Entries}
 use Rattle.entries.specs.declared.entries.Entries.the-variants.{Read, Short}
 

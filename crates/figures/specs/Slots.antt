@@ -11,7 +11,7 @@ use lib.Seq.{take-suc, take-all}
 use Rattle.definition.specs.Keys.{Keyed, noKeyed}
 use Rattle.definition.specs.Classes.{mark}
 use Rattle.definition.specs.Figures.{slot, inSlot}
-use Rattle.kept.specs.Numbers.{count-snoc}
+use Rattle.theory.specs.Making.Numbers.{count-snoc}
 use Rattle.key.specs.Words.{countIn}
 use Rattle.key.specs.declared.classes.Keying.{Keying}
 use Rattle.figures.specs.declared.histogram.Slots.{Slots}

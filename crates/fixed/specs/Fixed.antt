@@ -23,7 +23,7 @@ use Rattle.table.specs.Moved.{table-at}
 use Rattle.graph.specs.Nodes.{FlexOf, RootOf}
 use Rattle.table.specs.Asked.{graph-long}
 use Rattle.table.specs.declared.words.Table.{Table}
-use Rattle.kept.specs.Numbers.{number-any, count-next}
+use Rattle.theory.specs.Making.Numbers.{number-any, count-next}
 use Rattle.fixed.specs.Marks.{coloursAt, colourIn}
 
 -- graph and values stand, and just the numbered variables have a colour

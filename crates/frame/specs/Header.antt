@@ -1,5 +1,5 @@
 -- What a record's header says.
-use mathlib.Core.Path.{_≡_, refl, subst, _∙_}
+use mathlib.Core.Path.{_≡_, refl, _∙_}
 use mathlib.Core.Bool.{Bool, true, false}
 use mathlib.Core.List.{List}
 use Prim.Native.Nat.{ℕ, _+_, _-_, _≤_, _<_}
@@ -22,29 +22,23 @@ abbrev pub HeadsFirst : List ℕ → ℕ → Header → Type 0
 HeadsFirst s last (Whole k e) = (record-of kinds last s ≡ good (record { kind = k; body = take (e - 6) (drop 6 s) })) × (6 ≤ e) × (e ≤ length s) × (e ≡ 6 + le 4 s 0)
 HeadsFirst s last Bad = record-of kinds last s ≡ bad
 
--- the one at `at`
-abbrev pub Heads : List ℕ → ℕ → ℕ → Header → Type 0
-Heads s at last (Whole k e) =
+-- a good one of kind k stands at `at`, with a body that ends at e
+abbrev pub Heads : List ℕ → ℕ → ℕ → ℕ → ℕ → Type 0
+Heads s at last k e =
     (record-of kinds last (drop at s) ≡ good (record { kind = k; body = take (e - (at + 6)) (drop (at + 6) s) }))
     × (at + 6 ≤ e) × (e ≤ length s) × (e ≡ at + 6 + le 4 s at)
-Heads s at last Bad = record-of kinds last (drop at s) ≡ bad
 
 -- all that is there from `at` on
-lent-tail : (s : List ℕ) (at : ℕ) → take (length s - at) (drop at s) ≡ drop at s
+pub lent-tail : (s : List ℕ) (at : ℕ) → take (length s - at) (drop at s) ≡ drop at s
 lent-tail s at = take-all (length s - at) (drop at s) (omega (arith, length-drop at s))
 
--- it is the first of the tail from there on, as that is lent
-pub heads-tail : (s : List ℕ) (at last k e : ℕ) → at ≤ length s → HeadsFirst (take (length s - at) (drop at s)) last (Whole k e) → Heads s at last (Whole k (at + e))
-heads-tail s at last k e l H₀ =
-    let H : HeadsFirst (drop at s) last (Whole k e) = subst (λ (xs : List ℕ). HeadsFirst xs last (Whole k e)) (lent-tail s at) H₀ in
+-- the first of the tail from there on
+pub heads-tail : (s : List ℕ) (at last k e : ℕ) → at ≤ length s → HeadsFirst (drop at s) last (Whole k e) → Heads s at last k (at + e)
+heads-tail s at last k e l H =
     let n : at + 0 ≡ at = omega arith in
     let f : le 4 (drop at s) 0 ≡ le 4 s at = le-drop 4 at s 0 ∙ rw n in
     let m : at + e - (at + 6) ≡ e - 6 = omega arith in
     (rw m (rw (drop-drop 6 at s) at (H .0)), omega (arith, H .1), omega (arith, H .2, length-drop at s), omega (arith, H .3, f))
-
--- or bad with it
-pub heads-bad : (s : List ℕ) (at last : ℕ) → HeadsFirst (take (length s - at) (drop at s)) last Bad → Heads s at last Bad
-heads-bad s at last H = subst (λ (xs : List ℕ). HeadsFirst xs last Bad) (lent-tail s at) H
 
 -- what is bad behind a test is bad
 right-bad : {B : Type 0} (t : Bool) (f : Unit {0} → Checked B) → f tt ≡ bad → right t >>= f ≡ bad

@@ -1,12 +1,9 @@
 // The header in front of a record's body.
-ghost use Prim.Native.Nat.{_≤_};
-ghost use lib.ListN.{length};
-ghost use Rattle.frame.specs.Header.{Heads, HeadsFirst};
-use crate::unread::first_header;
+ghost use Rattle.frame.specs.Header.{HeadsFirst};
 use buffer::little::u16_at;
 use buffer::little::u32_at;
 
-// A record's kind and where its body ends, or that the record is cut, of no kind, or out of order.
+// A record's kind and where its body ends, counted from the record's first byte; or that it is cut, of no kind, or out of order.
 pub enum Header {
     Whole(u32, usize),
     Bad,
@@ -34,15 +31,4 @@ pub fn header_of(tail: &[u8], last: u32) -> Header
         return Header::Bad;
     }
     Header::Whole(kind, 6 + size)
-}
-
-// The header at `at`, behind a record of the kind `last`.
-pub fn header_at(pack: &[u8], at: usize, last: u32) -> Header
-    requires { ⌜ at ≤ length (now pack) ⌝ }
-    ensures { λ r. ⌜ Heads (now (pack .entry)) at last r ⌝ }
-{
-    match first_header(&pack[at..], last) {
-        Header::Whole(kind, end) => Header::Whole(kind, at + end),
-        Header::Bad => Header::Bad,
-    }
 }

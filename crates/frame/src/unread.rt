@@ -2,6 +2,8 @@
 use crate::header::Header;
 use crate::header::header_of;
 ghost use mathlib.Core.Path.{_≡_};
+ghost use Prim.Native.Nat.{_≤_};
+ghost use lib.ListN.{length, drop};
 ghost use Rattle.frame.specs.Header.{HeadsFirst};
 
 // The unread tail of a pack, and the kind of the record ahead of it.
@@ -24,11 +26,23 @@ impl<'a> Unread<'a> {
     {
         header_of(self.tail, self.last)
     }
+
+    // What is unread behind the first record, which ends at `end` and is of this kind.
+    pub fn behind(self, end: usize, kind: u32) -> Unread<'a>
+        requires { ⌜ end ≤ length (now (self .tail)) ⌝ }
+        ensures { λ r. ⌜ (now (r .tail) ≡ drop end (now (self .entry .tail))) × (r .last ≡ kind) ⌝ }
+    {
+        Unread {
+            tail: after(self.tail, end),
+            last: kind,
+        }
+    }
 }
 
-// The header at the start of a tail: for callers that hold no `Unread`.
-pub fn first_header(tail: &[u8], last: u32) -> Header
-    ensures { λ r. ⌜ HeadsFirst (now (tail .entry)) last r ⌝ }
+// What stands behind the first `end` bytes.
+fn after(tail: &[u8], end: usize) -> &[u8]
+    requires { ⌜ end ≤ length (now tail) ⌝ }
+    ensures { λ r. ⌜ now r ≡ drop end (now (tail .entry)) ⌝ }
 {
-    Unread::new(tail, last).header()
+    &tail[end..]
 }

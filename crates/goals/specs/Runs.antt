@@ -18,7 +18,7 @@ use Rattle.definition.specs.Run.{_>>=_, return, outcome}
 use Rattle.definition.specs.Goals.{Root, resultOf, instanceOf, testGoal, testGoals}
 use Rattle.definition.specs.declared.Refusal.{Refusal}
 use Rattle.definition.specs.declared.Refusal.the-variants.{Goal as Unmet, Instance}
-use Rattle.kept.specs.Runs.{outcome-fine, outcome-refuse, outcome-return-end, outcome-some, outcome-none, outcome-holds, outcome-fails}
+use Rattle.theory.specs.Making.Runs.{outcome-fine, outcome-refuse, outcome-return-end, outcome-some, outcome-none, outcome-holds, outcome-fails}
 
 -- ---- one goal
 module _ (P : Pack) (b : Built) (i : ℕ) (g : Goal) (L : Lent) where

@@ -33,7 +33,7 @@ use Rattle.goals.specs.declared.each.Tested.{Tested}
 use Rattle.goals.specs.declared.each.Tested.the-variants as answers
 use Rattle.goals.specs.Ready.{Ready, Testable, ready-on}
 use Rattle.goals.specs.Each.{TestsEach}
-use Rattle.kept.specs.Variables.{VariablesBelow}
+use Rattle.theory.specs.Making.Variables.{VariablesBelow}
 use Rattle.memo.specs.Lent.{lent, lent-before, Clears}
 
 -- ---- what is asked

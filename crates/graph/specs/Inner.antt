@@ -1,21 +1,12 @@
--- Graphs whose arguments are nodes.
+-- A graph held in words whose arguments are nodes.
 use mathlib.Core.Path.{_≡_, sym, _∙_}
-use mathlib.Core.List.{List, [], _∷_, _++_}
-use mathlib.Core.Option.{none}
-use Prim.Native.Nat.{ℕ, suc, _<_}
-use native.Mathlib.Omega.{arith}
-use native.Mathlib.Decide.{decLt}
-use lib.ListN.{length, length-append}
-use Rattle.definition.specs.Good.{Below}
-use Rattle.definition.specs.Laws.Grow.{below-more}
-use Rattle.definition.specs.Graph.{Vertex, Graph, vertex}
-use Rattle.theory.specs.Unification.Like.{vertex-old, vertex-new}
+use mathlib.Core.List.{List}
+use Prim.Native.Nat.{ℕ}
+use lib.ListN.{length}
+use Rattle.definition.specs.Graph.{Graph}
+use Rattle.theory.specs.Unification.Inner.{Inner}
 use Rattle.graph.specs.declared.graph.Graph.{Graph as Counts}
 use Rattle.graph.specs.Cells.{length-graphIn, Shows}
-
--- arguments are nodes
-abbrev pub Inner : Graph → Type 0
-Inner g = (x : ℕ) → x < length g → Below (length g) (vertex g x .args)
 
 -- some such graph is held
 abbrev pub HoldsInner : List ℕ → List ℕ → Counts → Type 0
@@ -24,14 +15,3 @@ HoldsInner words table s = (g : Graph) × Shows words table s g × Inner g
 -- it has as many nodes as are counted
 pub many-nodes : (words table : List ℕ) (s : Counts) (g : Graph) → Shows words table s g → length g ≡ s .nodes
 many-nodes words table s g S = sym (S .like .long) ∙ length-graphIn words table (s .nodes)
-
--- ---- a node more over nodes
-pub inner-more : (g : Graph) (v : Vertex) → v .link ≡ none → Inner g → Below (length g) (v .args) → Inner (g ++ (v ∷ []))
-inner-more g v bare I b x l =
-    let long : length (g ++ (v ∷ [])) ≡ suc (length g) = length-append g (v ∷ []) ∙ omega arith in
-    elim (decLt x (length g)) [
-      | yes h ↦ rw (vertex-old g v bare x h) (below-more (length g) (length (g ++ (v ∷ []))) (vertex g x .args) (omega arith) (I x h))
-      | no h ↦
-          let e : x ≡ length g = omega (arith, h) in
-          rw (e, vertex-new g v bare) (below-more (length g) (length (g ++ (v ∷ []))) (v .args) (omega arith) b)
-    ]

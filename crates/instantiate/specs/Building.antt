@@ -20,7 +20,7 @@ use Rattle.graph.specs.declared.graph.Graph.{Graph as Counts}
 use Rattle.graph.specs.declared.graph.Pushed.{Pushed}
 use Rattle.graph.specs.declared.graph.Pushed.the-variants.{At, Short}
 use Rattle.graph.specs.Cells.{rowsEnd, Shows}
-use Rattle.graph.specs.Inner.{Inner}
+use Rattle.theory.specs.Unification.Inner.{Inner}
 use Rattle.instantiate.specs.declared.terms.Place.{Place}
 use Rattle.instantiate.specs.declared.terms.Taken.{Taken}
 use Rattle.instantiate.specs.declared.terms.Taken.the-variants.{On, Short as Full}

@@ -18,7 +18,7 @@ use Rattle.pack.specs.Held.{Proper, held-on, reads-on}
 use Rattle.graph.specs.declared.graph.Graph.{Graph as Counts}
 use Rattle.graph.specs.declared.graph.Pushed.the-variants.{At, Short}
 use Rattle.graph.specs.Cells.{rowsEnd, Shows}
-use Rattle.graph.specs.Inner.{Inner}
+use Rattle.theory.specs.Unification.Inner.{Inner}
 use Rattle.instantiate.specs.declared.terms.Place.{Place}
 use Rattle.instantiate.specs.declared.terms.Taken.the-variants.{On, Short as Full}
 use Rattle.instantiate.specs.Building.{Spells, tableIn, Room, Beside, beside-same, Built, Taking, Takes, Asked, Instantiates}

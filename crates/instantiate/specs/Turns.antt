@@ -21,7 +21,7 @@ use Rattle.graph.specs.declared.graph.Graph.{Graph as Counts}
 use Rattle.graph.specs.declared.graph.Pushed.the-variants.{At, Short}
 use Rattle.graph.specs.Cells.{rowsEnd, Shows, Unchanged, cells-more}
 use Rattle.graph.specs.Pushes.{Pushes}
-use Rattle.graph.specs.Inner.{inner-more}
+use Rattle.theory.specs.Unification.Inner.{inner-more}
 use Rattle.instantiate.specs.declared.terms.Place.{Place}
 use Rattle.definition.specs.Laws.Suffix.{after, Ahead, a-variable, a-symbol, after-ahead, all-words}
 use Rattle.instantiate.specs.Suffix.{after-few, nodes-many, variable-nodes, symbol-nodes}

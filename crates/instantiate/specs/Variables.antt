@@ -18,7 +18,7 @@ use Rattle.graph.specs.declared.graph.Graph.{Graph as Counts}
 use Rattle.graph.specs.declared.graph.Pushed.the-variants.{At, Short}
 use Rattle.graph.specs.Cells.{markIn, rowsEnd, Shows, Unchanged}
 use Rattle.graph.specs.Pushes.{Pushes}
-use Rattle.graph.specs.Inner.{Inner, inner-more}
+use Rattle.theory.specs.Unification.Inner.{Inner, inner-more}
 use Rattle.base.specs.Part.{put, length-part}
 use Rattle.base.specs.declared.id.Node.{Node}
 use Rattle.instantiate.specs.declared.terms.Place.{Place}

@@ -12,7 +12,7 @@ use Rattle.definition.specs.Analysis.{GrownAll, instantiate, instantiateAll}
 use Rattle.definition.specs.Laws.Prefix.{termWords, termsWords}
 use Rattle.graph.specs.declared.graph.Graph.{Graph as Counts}
 use Rattle.graph.specs.Cells.{Shows, cells-more}
-use Rattle.graph.specs.Inner.{Inner}
+use Rattle.theory.specs.Unification.Inner.{Inner}
 use Rattle.instantiate.specs.declared.terms.Place.{Place}
 use Rattle.definition.specs.Laws.Suffix.{after, Ahead, a-variable, a-symbol, after-words, after-ahead, all-words, no-words}
 use Rattle.instantiate.specs.Suffix.{variable-nodes, symbol-nodes}

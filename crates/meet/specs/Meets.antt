@@ -9,6 +9,7 @@ use lib.Dec.{eqb}
 use Rattle.definition.specs.Test.{is, see}
 use Rattle.definition.specs.Store.{variableHead}
 use Rattle.definition.specs.Graph.{Graph, Pair, on, clashed, vertex, isFree, isVar, bind, join, lastFirst, meet}
+use Rattle.theory.specs.Unification.Turn.{meet-same}
 use Rattle.graph.specs.declared.graph.Graph.{Graph as Counts}
 use Rattle.meet.specs.declared.pairs.Pairs.{Pairs}
 use Rattle.meet.specs.declared.meet.Met.{Met}
@@ -17,58 +18,6 @@ use Rattle.graph.specs.Cells.{linkWord, rowsEnd, Laid, nodes-few, Shows, SameRo
 use Rattle.graph.specs.Joins.{Apart, Joins, Binds}
 use Rattle.graph.specs.Stack.{pairsEnd, pairsIn, pairs-same}
 use Rattle.meet.specs.Pairs.{Topmost, topmost-same, PairsOn}
-
--- ---- what the definition says, test by test
-module _ (g : Graph) (x y : ℕ) (work : List Pair) where
-  pub meet-same : x ≡ y → meet g x y work ≡ on g work
-  unfolding meet
-  meet-same e = rw (eq-eqb x y e, meet)
-
-  module _ (apart : x ≡ y → ⊥) where
-    -- a free left side is bound
-    pub meet-left : isFree (vertex g x) ≡ true → meet g x y work ≡ on (bind g x y) work
-    unfolding meet
-    meet-left e = rw (ne-eqb x y apart, e, meet)
-
-    module _ (left : isFree (vertex g x) ≡ false) where
-      -- a free right side is
-      pub meet-right : isFree (vertex g y) ≡ true → meet g x y work ≡ on (bind g y x) work
-      unfolding meet
-      meet-right e = rw (ne-eqb x y apart, left, e, meet)
-
-      module _ (right : isFree (vertex g y) ≡ false) where
-        -- a rigid variable clashes
-        pub meet-rigid : (isVar (vertex g x) || isVar (vertex g y)) ≡ true → meet g x y work ≡ clashed
-        unfolding meet
-        meet-rigid e = rw (ne-eqb x y apart, left, right, e, meet)
-
-        module _ (apps : (isVar (vertex g x) || isVar (vertex g y)) ≡ false) where
-          -- unlike heads clash, like ones are joined
-          pub meet-unlike : (vertex g x .head ≡ vertex g y .head → ⊥) → meet g x y work ≡ clashed
-          unfolding meet
-          meet-unlike d = rw (ne-eqb x y apart, left, right, apps, ne-eqb (vertex g x .head) (vertex g y .head) d, meet)
-
-          pub meet-alike : vertex g x .head ≡ vertex g y .head → meet g x y work ≡ on (join g x y) (lastFirst (vertex g x .args) (vertex g y .args) work)
-          unfolding meet
-          meet-alike e = rw (ne-eqb x y apart, left, right, apps, eq-eqb (vertex g x .head) (vertex g y .head) e, meet)
-
--- two that are not free, the first one an application
-module _ (g : Graph) (x y : ℕ) (work : List Pair) (apart : x ≡ y → ⊥) (left : isFree (vertex g x) ≡ false) (right : isFree (vertex g y) ≡ false) where
-  pub meet-variable : isVar (vertex g x) ≡ true → meet g x y work ≡ clashed
-  meet-variable e = meet-rigid g x y work apart left right (ap (λ (b : Bool). b || isVar (vertex g y)) e)
-
-  module _ (app : isVar (vertex g x) ≡ false) where
-    pub meet-differ : (vertex g y .head ≡ vertex g x .head → ⊥) → meet g x y work ≡ clashed
-    meet-differ d = elim (see (isVar (vertex g y))) [
-      | is true e ↦ meet-rigid g x y work apart left right (ap (λ (b : Bool). b || isVar (vertex g y)) app ∙ e)
-      | is false e ↦ meet-unlike g x y work apart left right (ap (λ (b : Bool). b || isVar (vertex g y)) app ∙ e) (λ q. d (sym q))
-    ]
-
-    pub meet-join : vertex g y .head ≡ vertex g x .head → meet g x y work ≡ on (join g x y) (lastFirst (vertex g x .args) (vertex g y .args) work)
-    unfolding isVar
-    meet-join e =
-        let v : isVar (vertex g y) ≡ false = ap (λ (h : ℕ). eqb h variableHead) e ∙ app in
-        meet-alike g x y work apart left right (ap (λ (b : Bool). b || isVar (vertex g y)) app ∙ v) (sym e)
 
 -- a node without a link
 abbrev pub Rooted : List ℕ → Counts → ℕ → Type 0

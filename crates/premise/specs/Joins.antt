@@ -14,7 +14,8 @@ use Rattle.graph.specs.declared.graph.Graph.{Graph as Counts}
 use Rattle.unify.specs.declared.unify.Outcome.the-variants.{Joined, Clash as Unlike}
 use Rattle.graph.specs.Cells.{rowsEnd, Shows, SameRows, shows-rows, Unchanged}
 use Rattle.graph.specs.Stack.{pairsEnd}
-use Rattle.graph.specs.Inner.{Inner, HoldsInner}
+use Rattle.theory.specs.Unification.Inner.{Inner}
+use Rattle.graph.specs.Inner.{HoldsInner}
 use Rattle.unify.specs.Unifies.{Unifies}
 use Rattle.premise.specs.declared.layout.Layout.{Layout}
 use Rattle.premise.specs.declared.premise.Taken.{Taken}

@@ -26,7 +26,8 @@ use Rattle.graph.specs.declared.graph.Graph.{Graph as Counts}
 use Rattle.graph.specs.declared.graph.Pushed.the-variants.{At, Short as Full}
 use Rattle.graph.specs.Cells.{rowsEnd, nodes-few, Shows, cells-more}
 use Rattle.graph.specs.Pushes.{cells-shown}
-use Rattle.graph.specs.Inner.{Inner, many-nodes}
+use Rattle.theory.specs.Unification.Inner.{Inner}
+use Rattle.graph.specs.Inner.{many-nodes}
 use Rattle.instantiate.specs.Building.{Spells, Asked, Instantiates}
 use Rattle.premise.specs.declared.layout.Layout.{Layout}
 use Rattle.premise.specs.declared.premise.Premise.{Premise}

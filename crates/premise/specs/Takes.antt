@@ -27,7 +27,8 @@ use Rattle.pack.specs.Reads.{Reads}
 use Rattle.pack.specs.Held.{Held, OfHeld, held-on, reads-on}
 use Rattle.graph.specs.declared.graph.Graph.{Graph as Counts}
 use Rattle.graph.specs.Cells.{rowsEnd, nodes-few, Shows, marksIn}
-use Rattle.graph.specs.Inner.{Inner, HoldsInner, many-nodes}
+use Rattle.theory.specs.Unification.Inner.{Inner}
+use Rattle.graph.specs.Inner.{HoldsInner, many-nodes}
 use Rattle.theory.specs.Copies.Terms.{Patterns}
 use Rattle.copy.specs.Held.{Given, Made, Copies}
 use Rattle.copy.specs.declared.walk.Copied.the-variants as answers

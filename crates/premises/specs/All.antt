@@ -23,7 +23,7 @@ use Rattle.key.specs.declared.classes.Keying.{Keying}
 use Rattle.key.specs.declared.classes.Counts.{Counts as KeyCounts}
 use Rattle.premise.specs.declared.layout.Layout.{Layout}
 use Rattle.premise.specs.declared.premise.Taken.the-variants as taken
-use Rattle.kept.specs.Runs.{outcome-return-end}
+use Rattle.theory.specs.Making.Runs.{outcome-return-end}
 use Rattle.premises.specs.declared.premises.Ruling.{Ruling}
 use Rattle.premises.specs.declared.premises.Premised.{Premised}
 use Rattle.premises.specs.declared.premises.Premised.the-variants.{On, Clash, Short}

@@ -16,7 +16,7 @@ use Rattle.definition.specs.Classes.{Class, noClass, Built, Premises, inOrder, 
 use Rattle.definition.specs.declared.Refusal.the-variants.{Clash as Clashes, Short as TooShort}
 use Rattle.theory.specs.Classes.Premises.{Made}
 use Rattle.premise.specs.Takes.{freshOf, placedOf, joinedOf}
-use Rattle.kept.specs.Runs.{outcome-note, outcome-short, outcome-some, outcome-none}
+use Rattle.theory.specs.Making.Runs.{outcome-note, outcome-short, outcome-some, outcome-none}
 use Rattle.premises.specs.declared.premises.Ruling.{Ruling}
 
 -- the refs' first steps

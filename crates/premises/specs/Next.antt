@@ -39,10 +39,11 @@ use Rattle.pack.specs.Reads.{Reads, length-steps, ruleWords}
 use Rattle.clause.specs.Spelt.{Spelt, words-most}
 use Rattle.graph.specs.declared.graph.Graph.{Graph as Counts}
 use Rattle.graph.specs.Cells.{Shows, marksIn}
-use Rattle.graph.specs.Inner.{Inner, many-nodes}
+use Rattle.theory.specs.Unification.Inner.{Inner}
+use Rattle.graph.specs.Inner.{many-nodes}
 use Rattle.theory.specs.Copies.Terms.{Patterns}
-use Rattle.kept.specs.Unified.{unify-same}
-use Rattle.kept.specs.FewArgs.{FewArgs, few-copy, few-instance, few-unify}
+use Rattle.theory.specs.Making.Unified.{unify-same}
+use Rattle.theory.specs.Making.FewArgs.{FewArgs, few-copy, few-instance, few-unify}
 use Rattle.key.specs.declared.classes.Keying.{Keying}
 use Rattle.key.specs.declared.classes.Counts.{Counts as KeyCounts}
 use Rattle.premise.specs.Layout.{tableIn}

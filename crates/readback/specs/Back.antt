@@ -12,7 +12,7 @@ use Rattle.definition.specs.Verdict.{valueOf}
 use Rattle.definition.specs.Store.{patternWords}
 use Rattle.definition.specs.Graph.{Graph, vertex, circular, cells as cellsOf}
 use Rattle.definition.specs.Analysis.{Numbered}
-use Rattle.theory.specs.Walks.Levels.{Inner}
+use Rattle.theory.specs.Unification.Inner.{Inner}
 use Rattle.theory.specs.Walks.Reading.{numberedAs, resolvedAs}
 use Rattle.theory.specs.Walks.Resolving.{Resolving, resolving}
 use Rattle.base.specs.Part.{part, put, length-part}

@@ -16,7 +16,8 @@ use Rattle.base.specs.Part.{part}
 use Rattle.region.specs.Place.{Place}
 use Rattle.catalog.specs.Whole.{recordsOf}
 use Rattle.catalog.specs.declared.whole.Catalog.{Catalog}
-use Rattle.frame.specs.Header.{Heads}
+use Rattle.frame.specs.Header.{Heads, HeadsFirst, heads-tail}
+use Rattle.frame.specs.declared.header.Header.{Header}
 use Rattle.frame.specs.declared.header.Header.the-variants.{Whole, Bad}
 use Rattle.pack.specs.Reads.{Reads, length-nodes, length-symbols, node-of}
 use Rattle.horn.specs.Taking.{Reading, behind}
@@ -39,9 +40,16 @@ pub record Walking (bytes work : List ℕ) (c : Catalog) (at last : ℕ) : Type 
   pub fit : Good pack
   pub left : records kinds takeRecord (drop at bytes) 0 at last pack ≡ parse bytes
 
+-- ahead of the record at `at`, and this is its header
+pub record Meeting (bytes work : List ℕ) (c : Catalog) (at : ℕ) (header : Header) : Type 0 where
+  pub last : ℕ
+  pub walking : Walking bytes work c at last
+  pub some-left : at < length bytes
+  pub heads : HeadsFirst (drop at bytes) last header
+
 -- what taking up the next record answers
 abbrev pub Goes : List ℕ → List ℕ → List ℕ → Catalog → ℕ → Next → Type 0
-Goes bytes work work′ c at (next.At end kind) = Walking bytes work′ c end kind × Beyond work work′ c × (at < end)
+Goes bytes work work′ c at (next.At size kind) = Walking bytes work′ c (at + size) kind × Beyond work work′ c × (0 < size)
 Goes bytes work work′ c at next.Bad = parse bytes ≡ refuse (Form at)
 Goes bytes work work′ c at next.Over = parse bytes ≡ refuse (Limit at)
 
@@ -59,11 +67,17 @@ walking-sound bytes work c at last W = record { pack = W .pack; reads = W .reads
 
 module _ (bytes work : List ℕ) (c : Catalog) (at last : ℕ) (W : Walking bytes work c at last) where
   -- no record is there
-  pub no-record : at < length bytes → Heads bytes at last Bad → parse bytes ≡ refuse (Form at)
+  pub no-record : at < length bytes → HeadsFirst (drop at bytes) last Bad → parse bytes ≡ refuse (Form at)
   no-record l H = sym (W .left) ∙ records-cut kinds takeRecord (drop at bytes) at last (W .pack) (omega (arith, length-drop at bytes)) H
 
   -- a record is there
-  module _ (kind end : ℕ) (H : Heads bytes at last (Whole kind end)) where
+  module _ (kind size : ℕ) (H₁ : HeadsFirst (drop at bytes) last (Whole kind size)) where
+    abbrev end : ℕ
+    end = at + size
+
+    H : Heads bytes at last kind end
+    H = heads-tail bytes at last kind size (W .inside) H₁
+
     abbrev body : List ℕ
     body = take (end - (at + 6)) (drop (at + 6) bytes)
 
@@ -79,7 +93,7 @@ module _ (bytes work : List ℕ) (c : Catalog) (at last : ℕ) (W : Walking byte
 
     -- it was taken up
     pub went-on : (work′ : List ℕ) (r : Taken) → Advances bytes work work′ c (behind at body) (λ P. takeRecord P (record { kind = kind; body = body })) r
-        → (r ≡ taken.Good → Goes bytes work work′ c at (next.At end kind)) × (r ≡ taken.Bad → Goes bytes work work′ c at next.Bad) × (r ≡ taken.Over → Goes bytes work work′ c at next.Over)
+        → (r ≡ taken.Good → Goes bytes work work′ c at (next.At size kind)) × (r ≡ taken.Bad → Goes bytes work work′ c at next.Bad) × (r ≡ taken.Over → Goes bytes work work′ c at next.Over)
     went-on work′ r A = (λ e. on (subst (Advances bytes work work′ c (behind at body) (λ P. takeRecord P (record { kind = kind; body = body }))) e A), λ e. against (subst (Advances bytes work work′ c (behind at body) (λ P. takeRecord P (record { kind = kind; body = body }))) e A), λ e. too-much (subst (Advances bytes work work′ c (behind at body) (λ P. takeRecord P (record { kind = kind; body = body }))) e A))
       where
         against : Advances bytes work work′ c (behind at body) (λ P. takeRecord P (record { kind = kind; body = body })) taken.Bad → parse bytes ≡ refuse (Form at)
@@ -88,7 +102,7 @@ module _ (bytes work : List ℕ) (c : Catalog) (at last : ℕ) (W : Walking byte
         too-much : Advances bytes work work′ c (behind at body) (λ P. takeRecord P (record { kind = kind; body = body })) taken.Over → parse bytes ≡ refuse (Limit at)
         too-much B = sym (W .left) ∙ records-over kinds takeRecord (drop at bytes) at last (W .pack) _ (H .0) (B (W .pack) (W .reads))
 
-        on : Advances bytes work work′ c (behind at body) (λ P. takeRecord P (record { kind = kind; body = body })) taken.Good → Goes bytes work work′ c at (next.At end kind)
+        on : Advances bytes work work′ c (behind at body) (λ P. takeRecord P (record { kind = kind; body = body })) taken.Good → Goes bytes work work′ c at (next.At size kind)
         on B =
             let s = B .says (W .pack) (W .reads) in
             let e : at + (6 + length body) ≡ end = omega (arith, behind-is) in
@@ -105,5 +119,5 @@ module _ (bytes work : List ℕ) (c : Catalog) (at last : ℕ) (W : Walking byte
                 left = rw (e, f) at (sym g) ∙ W .left;
               },
               B .beyond,
-              omega (arith, H .1),
+              omega (arith, H₁ .1),
             )

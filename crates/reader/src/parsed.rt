@@ -3,6 +3,7 @@ use crate::walk::Next;
 use crate::walk::take_next;
 use buffer::zero::zero_words;
 use catalog::whole::Catalog;
+use frame::unread::Unread;
 ghost use mathlib.Core.Path.{_≡_};
 ghost use lib.ListN.{length};
 ghost use Rattle.cuts.specs.Marks.{Beyond};
@@ -37,18 +38,17 @@ fn open_tables(pack: &[u8], work: &mut [u32]) -> Catalog
     Catalog::new(work, 0, cap)
 }
 
-// The records from the first on.
+// The records from the first on: what is unread is carried from each to the next.
 fn read_records(pack: &[u8], work: &mut [u32], c: Catalog) -> Parsed
     requires { ⌜ (c ≡ tablesOf (length (now pack))) × Walking (now pack) (now work) (tablesOf (length (now pack))) 0 0 ⌝ }
     ensures { λ r. ⌜ Parses (now (pack .entry)) (now (work .entry)) (now (work .exit)) r ⌝ }
 {
-    let mut at: usize = 0;
-    let mut last: u32 = 0;
-    while at < pack.len() {
-        match take_next(pack, work, c, at, last) {
+    let mut unread = Unread::new(pack, 0);
+    while 0 < unread.tail.len() {
+        let at = pack.len() - unread.tail.len();
+        match take_next(pack, work, c, at, unread.header()) {
             Next::At(end, kind) => {
-                at = end;
-                last = kind;
+                unread = unread.behind(end, kind);
             }
             Next::Bad => {
                 return Parsed::Form(at);

@@ -7,20 +7,17 @@ use certificate::result::take_result;
 use certificate::step::take_step;
 use cuts::cut::take_cut;
 use frame::header::Header;
-use frame::header::header_at;
 use horn::rule::take_rule;
 use horn::sort::take_sort;
 use horn::symbol::take_symbol;
 use horn::taken::Taken;
-ghost use Prim.Native.Nat.{_<_};
-ghost use lib.ListN.{length};
 ghost use Rattle.definition.specs.Parse.{takeRecord};
 ghost use Rattle.horn.specs.Taking.{Reading, Whole, behind};
 ghost use Rattle.horn.specs.Sound.{Sound};
 ghost use Rattle.cuts.specs.Marks.{Marks, Advances};
-ghost use Rattle.reader.specs.Walk.{Walking, Goes};
+ghost use Rattle.reader.specs.Walk.{Meeting, Goes};
 
-// Behind a record: the next one starts here, behind one of this kind; or the record is against its form, or over a limit.
+// Behind a record: where it ends, counted from its first byte, and its kind; or the record is against its form, or over a limit.
 pub enum Next {
     At(usize, u32),
     Bad,
@@ -66,14 +63,14 @@ fn take_record(
     take_abstract(pack, body, work, c, at)
 }
 
-// The record at `at`, behind one of the kind `last`, taken up.
-pub fn take_next(pack: &[u8], work: &mut [u32], c: Catalog, at: usize, last: u32) -> Next
-    requires { ⌜ Walking (now pack) (now work) c at last × (at < length (now pack)) ⌝ }
+// The record at `at`, which has this header, taken up.
+pub fn take_next(pack: &[u8], work: &mut [u32], c: Catalog, at: usize, header: Header) -> Next
+    requires { ⌜ Meeting (now pack) (now work) c at header ⌝ }
     ensures { λ r. ⌜ Goes (now (pack .entry)) (now (work .entry)) (now (work .exit)) c at r ⌝ }
 {
-    match header_at(pack, at, last) {
+    match header {
         Header::Whole(kind, end) => {
-            let body = &pack[at + 6..end];
+            let body = &pack[at + 6..at + end];
             match take_record(pack, body, work, c, at, kind) {
                 Taken::Good => Next::At(end, kind),
                 Taken::Bad => Next::Bad,

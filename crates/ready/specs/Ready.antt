@@ -27,9 +27,9 @@ use Rattle.cuts.specs.Marks.{Marks}
 use Rattle.reader.specs.Parsed.{tablesOf, Represents}
 use Rattle.reader.specs.Said.{represents-held}
 use Rattle.theory.specs.Copies.Terms.{Patterns}
-use Rattle.kept.specs.Runs.{outcome-note, outcome-short, length-class}
-use Rattle.kept.specs.Interns.{patterns-none}
-use Rattle.kept.specs.Variables.{VariablesBelow, variables-none}
+use Rattle.theory.specs.Making.Runs.{outcome-note, outcome-short, length-class}
+use Rattle.theory.specs.Making.Interns.{patterns-none}
+use Rattle.theory.specs.Making.Variables.{VariablesBelow, variables-none}
 use Rattle.needed.specs.Upto.{upto-same}
 use Rattle.key.specs.Words.{endOf, Keyable}
 use Rattle.keys.specs.Keyed.{KeyedWork, keyed-work-on}

@@ -16,7 +16,8 @@ use Rattle.definition.specs.Store.{variableHead}
 use Rattle.definition.specs.Graph.{Vertex, Graph, applied, vertex, root, isVar}
 use Rattle.theory.specs.Walks.Walk.{visit, walk, visitEffort, effort, walk-image}
 use Rattle.theory.specs.Walks.Machine.{Frame, frameLeft, frameTurns, turnsLeft}
-use Rattle.theory.specs.Walks.Levels.{Inner, argRoots, roots-variable, roots-applied}
+use Rattle.theory.specs.Unification.Inner.{Inner}
+use Rattle.theory.specs.Walks.Levels.{argRoots, roots-variable, roots-applied}
 use Rattle.theory.specs.Walks.Resolving.{Resolving, isRead, readRoot, read-made, read-others}
 use Rattle.store.specs.declared.nodes.Store.{Store}
 use Rattle.lift.specs.Lifts.{framesIn}

@@ -12,7 +12,8 @@ use Rattle.definition.specs.Analysis.{resolve}
 use Rattle.theory.specs.Unification.Forest.{Forest}
 use Rattle.theory.specs.Walks.Machine.{Frame, frame, Walking, turn, Stacked}
 use Rattle.theory.specs.Walks.WalkReady.{Sound}
-use Rattle.theory.specs.Walks.Levels.{Inner, argRoots, rankOf, roots-fall, roots-inside}
+use Rattle.theory.specs.Unification.Inner.{Inner}
+use Rattle.theory.specs.Walks.Levels.{argRoots, rankOf, roots-fall, roots-inside}
 use Rattle.theory.specs.Walks.Reading.{numberedAs, resolvedAs}
 use Rattle.theory.specs.Walks.Resolving.{Resolving, resolving, isRead, readRoot, read-made, read-others}
 use Rattle.store.specs.Stored.{nodes, written}

@@ -10,7 +10,7 @@ use Rattle.definition.specs.Frame.{fine, refuse}
 use Rattle.definition.specs.Answer.{Lent}
 use Rattle.definition.specs.Run.{lengthOf, outcome}
 use Rattle.definition.specs.declared.Refusal.the-variants.{Short}
-use Rattle.kept.specs.Runs.{outcome-note, outcome-short, outcome-return-end}
+use Rattle.theory.specs.Making.Runs.{outcome-note, outcome-short, outcome-return-end}
 
 -- how full the class buffer is with one class more
 abbrev pub fillWith : Built → Class → ℕ

@@ -26,7 +26,7 @@ use Rattle.lift.specs.Lifts.{indexAt, marks, indexIn, Lifts}
 use Rattle.lift.specs.Memo.{lifted-same}
 use Rattle.lift.specs.declared.walk.Lifted.{Lifted}
 use Rattle.theory.specs.Copies.Terms.{Patterns}
-use Rattle.kept.specs.Variables.{VariablesBelow}
+use Rattle.theory.specs.Making.Variables.{VariablesBelow}
 use Rattle.key.specs.Words.{countIn}
 use Rattle.key.specs.declared.classes.Keying.{Keying}
 use Rattle.key.specs.declared.classes.Counts.{Counts}

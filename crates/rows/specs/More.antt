@@ -22,7 +22,7 @@ use Rattle.pack.specs.Reads.{length-steps}
 use Rattle.pack.specs.Held.{reads-on}
 use Rattle.lift.specs.Lifts.{Lifts}
 use Rattle.theory.specs.Copies.Terms.{Patterns}
-use Rattle.kept.specs.Variables.{VariablesBelow}
+use Rattle.theory.specs.Making.Variables.{VariablesBelow}
 use Rattle.needed.specs.Upto.{upto-same}
 use Rattle.keys.specs.Keyed.{keyed-work-on}
 use Rattle.key.specs.declared.classes.Keying.{Keying}

@@ -20,7 +20,7 @@ use Rattle.pack.specs.Held.{Proper, Held, reads-on}
 use Rattle.lift.specs.Lifts.{Lifts}
 use Rattle.lift.specs.declared.walk.Lifted.{Lifted}
 use Rattle.theory.specs.Copies.Terms.{Patterns}
-use Rattle.kept.specs.Variables.{VariablesBelow}
+use Rattle.theory.specs.Making.Variables.{VariablesBelow}
 use Rattle.needed.specs.Upto.{upto-same}
 use Rattle.key.specs.Words.{endOf}
 use Rattle.keys.specs.Keyed.{KeyedIn, KeyedWork, keyed-work-on}

@@ -31,7 +31,7 @@ use Rattle.instantiate.specs.Variables.{variablesOf, Opening, Opens}
 use Rattle.instantiate.specs.declared.variables.Opened.the-variants as opened
 use Rattle.key.specs.declared.classes.Keying.{Keying}
 use Rattle.key.specs.declared.classes.Counts.{Counts as KeyCounts}
-use Rattle.kept.specs.FewArgs.{few-variables}
+use Rattle.theory.specs.Making.FewArgs.{few-variables}
 use Rattle.premise.specs.Layout.{placeOf, memoIn, tableIn}
 use Rattle.premise.specs.declared.layout.Layout.{Layout}
 use Rattle.premises.specs.declared.premises.Ruling.{Ruling}

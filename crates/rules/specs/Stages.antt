@@ -18,7 +18,7 @@ use Rattle.definition.specs.Classes.{Class, Built, Premises, takePremises, coun
 use Rattle.definition.specs.declared.Refusal.{Refusal}
 use Rattle.definition.specs.declared.Refusal.the-variants.{Circle, Instance, Short}
 use Rattle.instantiate.specs.Variables.{variablesOf}
-use Rattle.kept.specs.Runs.{outcome-note, outcome-short, outcome-some, outcome-none, outcome-holds, outcome-fails, outcome-fine, outcome-refuse}
+use Rattle.theory.specs.Making.Runs.{outcome-note, outcome-short, outcome-some, outcome-none, outcome-holds, outcome-fails, outcome-fine, outcome-refuse}
 use Rattle.premises.specs.All.{start}
 
 -- the conclusion's instance, behind the premises' graph

@@ -46,8 +46,8 @@ use Rattle.premises.specs.Next.{Here}
 use Rattle.premises.specs.All.{judged}
 use Rattle.rows.specs.Standing.{Standing, standing-held, standing-behind, standing-on}
 use Rattle.values.specs.All.{judgmentsTo, Starting, GivesAll}
-use Rattle.kept.specs.Values.{Grounded, valued-grounded}
-use Rattle.kept.specs.Firsts.{firsts-given, judgments-given}
+use Rattle.theory.specs.Making.Values.{Grounded, valued-grounded}
+use Rattle.theory.specs.Making.Firsts.{firsts-given, judgments-given}
 use Rattle.rules.specs.declared.solve.Solved.{Solved}
 use Rattle.rules.specs.declared.solve.Solved.the-variants.{On, Clash, Circle, Differs, Short}
 use Rattle.rules.specs.Stages.{valuesOf}

@@ -9,7 +9,8 @@ use Rattle.definition.specs.Test.{never}
 use Rattle.definition.specs.Graph.{Graph, vertex, root}
 use Rattle.definition.specs.Store.{variableHead}
 use Rattle.theory.specs.Walks.Walk.{under-at, below-under}
-use Rattle.theory.specs.Walks.Levels.{Inner, argRoots, roots-variable, roots-applied}
+use Rattle.theory.specs.Unification.Inner.{Inner}
+use Rattle.theory.specs.Walks.Levels.{argRoots, roots-variable, roots-applied}
 use Rattle.base.specs.Part.{put}
 use Rattle.graph.specs.declared.graph.Graph.{Graph as Counts}
 use Rattle.graph.specs.Cells.{startIn, length-graphIn, rowsEnd, Shows}

@@ -9,7 +9,7 @@ use Rattle.definition.specs.Pack.{Pack}
 use Rattle.definition.specs.Verdict.{Bound, valueOf}
 use Rattle.definition.specs.Graph.{Graph, vertex, circular}
 use Rattle.definition.specs.Analysis.{numberOf}
-use Rattle.theory.specs.Walks.Levels.{Inner}
+use Rattle.theory.specs.Unification.Inner.{Inner}
 use Rattle.theory.specs.Walks.Resolving.{Resolving, isRead, Right}
 use Rattle.base.specs.Word.{wordOf}
 use Rattle.base.specs.Part.{part}

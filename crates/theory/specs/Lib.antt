@@ -6,6 +6,7 @@ pub mod Patterns
 pub mod Keys
 pub mod Classes
 pub mod Walks
+pub mod Making
 pub mod Principal
 pub mod DemandThree
 pub mod Teeth

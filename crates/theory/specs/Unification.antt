@@ -4,9 +4,11 @@ pub mod Count
 pub mod Roots
 pub mod Forest
 pub mod Like
+pub mod Inner
 pub mod Join
 pub mod Kept
 pub mod Pairs
+pub mod Turn
 pub mod Meet
 pub mod Unify
 pub mod Acyclic

@@ -18,7 +18,8 @@ use Rattle.graph.specs.declared.graph.Graph.{Graph as Counts}
 use Rattle.unify.specs.declared.unify.Outcome.the-variants.{Joined, Clash}
 use Rattle.graph.specs.Cells.{Shows, nodes-few}
 use Rattle.graph.specs.Links.{Found}
-use Rattle.graph.specs.Inner.{Inner, many-nodes}
+use Rattle.theory.specs.Unification.Inner.{Inner}
+use Rattle.graph.specs.Inner.{many-nodes}
 use Rattle.unify.specs.Unifies.{Unifies}
 use Rattle.circle.specs.Circles.{Tells}
 use Rattle.circle.specs.Words.{coloursEnd}

@@ -19,7 +19,8 @@ use Rattle.graph.specs.declared.graph.Graph.{Graph as Counts}
 use Rattle.graph.specs.declared.graph.Pushed.the-variants.{At, Short}
 use Rattle.graph.specs.Cells.{markIn, Shows, cells-more}
 use Rattle.graph.specs.Pushes.{Pushes, cells-shown}
-use Rattle.graph.specs.Inner.{Inner, inner-more, many-nodes}
+use Rattle.theory.specs.Unification.Inner.{Inner, inner-more}
+use Rattle.graph.specs.Inner.{many-nodes}
 use Rattle.unifier.specs.declared.Turn.{Turn}
 use Rattle.unifier.specs.declared.Turn.the-variants.{Next, Broken, Full}
 use Rattle.unifier.specs.declared.Read.{Read}

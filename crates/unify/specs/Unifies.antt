@@ -17,6 +17,8 @@ use Rattle.theory.specs.Unification.Like.{own-root}
 use Rattle.theory.specs.Unification.Unify.{take-clashed, take-on, open-most}
 use Rattle.theory.specs.Unification.Join.{same-refl, join-joined, bind-joined}
 use Rattle.theory.specs.Unification.Pairs.{args-length}
+use Rattle.theory.specs.Unification.Inner.{same-inner}
+use Rattle.theory.specs.Unification.Turn.{Within, meet-keeps}
 use Rattle.graph.specs.declared.graph.Graph.{Graph as Counts}
 use Rattle.meet.specs.declared.pairs.Pairs.{Pairs}
 use Rattle.meet.specs.declared.meet.Met.{Met}
@@ -28,67 +30,10 @@ use Rattle.graph.specs.Links.{Holds, Found, link-of, found-here}
 use Rattle.graph.specs.Pushes.{cells-shown}
 use Rattle.graph.specs.Nodes.{arity-of}
 use Rattle.graph.specs.Stack.{pairsEnd, leftWord, rightWord, pairsIn, length-pairsIn, pairs-same}
-use Rattle.graph.specs.Inner.{Inner, HoldsInner, many-nodes}
+use Rattle.theory.specs.Unification.Inner.{Inner}
+use Rattle.graph.specs.Inner.{HoldsInner, many-nodes}
 use Rattle.meet.specs.Pairs.{Topmost, PairsRoom}
-use Rattle.meet.specs.Meets.{Rooted, Meets, meet-same, meet-left, meet-right, meet-rigid, meet-unlike, meet-alike}
-
--- pairs of nodes
-abbrev pub Within : ℕ → List Pair → Type 0
-Within n [] = Unit {0}
-Within n (p ∷ ps) = (p .left < n) × (p .right < n) × Within n ps
-
--- arguments side by side are
-within-args : (n : ℕ) (xs ys : List ℕ) (ps : List Pair) → Below n xs → Below n ys → Within n ps → Within n (lastFirst xs ys ps)
-unfolding lastFirst
-within-args n [] ys ps a b w = w
-within-args n (x ∷ xs) [] ps a b w = w
-within-args n (x ∷ xs) (y ∷ ys) ps a b w = within-args n xs ys (record { left = x; right = y } ∷ ps) (a .1) (b .1) (a .0, b .0, w)
-
--- what a turn keeps: the nodes, and that pairs and open cells together don't grow
-pub record Kept (g h : Graph) (work more : List Pair) : Type 0 where
-  pub same : SameNodes g h
-  pub less : length more + openCells h ≤ length work + openCells g
-  pub within : Within (length g) work → Inner g → Within (length g) more
-
-turn-eq : {g h : Graph} {ps qs : List Pair} → on g ps ≡ on h qs → (g ≡ h) × (ps ≡ qs)
-turn-eq e = (cc, cc)
-
-no-turn : {h : Graph} {qs : List Pair} → clashed ≡ on h qs → ⊥
-no-turn e = never (cc)
-
-module _ (g : Graph) (x y : ℕ) (work : List Pair) (lx : x < length g) (ly : y < length g) (rx : vertex g x .link ≡ none) (ry : vertex g y .link ≡ none) where
-  to-kept : (h′ h : Graph) (more′ more : List Pair) → meet g x y work ≡ on h′ more′ → meet g x y work ≡ on h more → Kept g h′ work more′ → Kept g h work more
-  to-kept h′ h more′ more e f K =
-      let q = turn-eq (sym e ∙ f) in
-      subst (λ (k : Graph). Kept g k work more) (q .0) (subst (Kept g h′ work) (q .1) K)
-
-  pub meet-keeps : (h : Graph) (more : List Pair) → meet g x y work ≡ on h more → Kept g h work more
-  meet-keeps h more m = elim (ℕ-discrete x y) [
-    | yes e ↦ to-kept g h work more (meet-same g x y work e) m (record { same = same-refl g; less = omega arith; within = λ w i. w })
-    | no d ↦ elim (see (isFree (vertex g x))) [
-      | is true a ↦ let j = bind-joined g x y lx ly rx d in to-kept (bind g x y) h work more (meet-left g x y work d a) m (record { same = j .same; less = omega (arith, j .closed); within = λ w i. w })
-      | is false a ↦ elim (see (isFree (vertex g y))) [
-        | is true b ↦ let j = bind-joined g y x ly lx ry (λ q. d (sym q)) in to-kept (bind g y x) h work more (meet-right g x y work d a b) m (record { same = j .same; less = omega (arith, j .closed); within = λ w i. w })
-        | is false b ↦ elim (see (isVar (vertex g x) || isVar (vertex g y))) [
-          | is true v ↦ absurd (no-turn (sym (meet-rigid g x y work d a b v) ∙ m))
-          | is false v ↦ elim (ℕ-discrete (vertex g x .head) (vertex g y .head)) [
-            | yes q ↦
-                let j = join-joined g x y lx rx in
-                to-kept (join g x y) h (lastFirst (vertex g x .args) (vertex g y .args) work) more (meet-alike g x y work d a b v q) m (record {
-                  same = j .same;
-                  less = omega (arith, j .closed, args-length (vertex g x .args) (vertex g y .args) work);
-                  within = λ w i. within-args (length g) (vertex g x .args) (vertex g y .args) work (i x lx) (i y ly) w;
-                })
-            | no q ↦ absurd (no-turn (sym (meet-unlike g x y work d a b v q) ∙ m))
-          ]
-        ]
-      ]
-    ]
-  ]
-
--- inner graphs stay so
-same-inner : (g h : Graph) → SameNodes g h → Inner g → Inner h
-same-inner g h S I x l = let m = S .long in rw (m, S .args x) (I x (omega arith))
+use Rattle.meet.specs.Meets.{Rooted, Meets}
 
 -- ---- the state of unifying x and y in g₀: what is left of it
 pub record Taking (words table : List ℕ) (s : Counts) (top taken : ℕ) (g₀ : Graph) (x y : ℕ) : Type 0 where

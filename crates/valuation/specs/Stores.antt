@@ -13,7 +13,7 @@ use Rattle.valuation.specs.Words.{valuesEnd, valuesAt, tableIn, Stands, 
 use Rattle.base.specs.Outside.{outside-then}
 use Rattle.base.specs.Part.{put}
 use Rattle.buffer.specs.Zero.{zeros-long, zeros-there, zeros-before, zeros-behind}
-use Rattle.theory.specs.Walks.Levels.{Inner}
+use Rattle.theory.specs.Unification.Inner.{Inner}
 use Rattle.graph.specs.declared.graph.Graph.{Graph as Counts}
 use Rattle.graph.specs.Cells.{rowsEnd, Laid, nodes-few, Shows, SameRows}
 use Rattle.graph.specs.Links.{Found}

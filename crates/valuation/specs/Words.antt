@@ -20,7 +20,7 @@ use Rattle.catalog.specs.Same.{endOf, Same}
 use Rattle.catalog.specs.declared.whole.Catalog.{Catalog}
 use Rattle.pack.specs.Held.{Held, OfHeld, held-on}
 use Rattle.theory.specs.Copies.Copying.{valueOf-new, valueOf-old}
-use Rattle.theory.specs.Walks.Levels.{Inner}
+use Rattle.theory.specs.Unification.Inner.{Inner}
 use Rattle.graph.specs.declared.graph.Graph.{Graph as Counts}
 use Rattle.graph.specs.Cells.{rowsEnd, nodes-few, Shows, SameRows, rows-set, shows-rows, Unchanged}
 use Rattle.graph.specs.Links.{Found}

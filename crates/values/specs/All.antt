@@ -20,7 +20,7 @@ use Rattle.catalog.specs.Same.{endOf, Same, same-records}
 use Rattle.catalog.specs.declared.whole.Catalog.{Catalog}
 use Rattle.pack.specs.Reads.{Reads, length-steps}
 use Rattle.pack.specs.Held.{Held, OfHeld, held-on, reads-on}
-use Rattle.theory.specs.Walks.Levels.{Inner}
+use Rattle.theory.specs.Unification.Inner.{Inner}
 use Rattle.graph.specs.declared.graph.Graph.{Graph as Counts}
 use Rattle.graph.specs.Cells.{Shows}
 use Rattle.graph.specs.Inner.{many-nodes}
@@ -28,7 +28,7 @@ use Rattle.valuation.specs.Stores.{Clears}
 use Rattle.valuation.specs.declared.words.Valued.{Valued}
 use Rattle.fix.specs.declared.walk.Fixed.{Fixed}
 use Rattle.fix.specs.declared.walk.Fixed.the-variants.{Done, Differs}
-use Rattle.kept.specs.Values.{valued-nil, valued-snoc, valued-none}
+use Rattle.theory.specs.Making.Values.{valued-nil, valued-snoc, valued-none}
 use Rattle.values.specs.One.{judgmentOf, Asking, Gives}
 
 -- the judgments of the first i refs

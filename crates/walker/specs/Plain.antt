@@ -25,7 +25,7 @@ use Rattle.theory.specs.Copies.CopyNode.{copyNode-nodes}
 use Rattle.theory.specs.Walks.Walk.{Under, Known, walk}
 use Rattle.theory.specs.Walks.WalkOnce.{once-induct}
 use Rattle.theory.specs.Walks.Memo.{has-value}
-use Rattle.theory.specs.Walks.Levels.{Inner}
+use Rattle.theory.specs.Unification.Inner.{Inner}
 use Rattle.theory.specs.Walks.CopyWalk.{noCopy, isCopied, copyAt, copy-made, copy-others, copy-known, copy-walk}
 use Rattle.graph.specs.Cells.{cells-more}
 

@@ -12,14 +12,11 @@ use Rattle.definition.specs.Test.{is, see, never, tests, all, _and_, and-parts}
 use Rattle.definition.specs.Good.{Below}
 use Rattle.definition.specs.Graph.{Vertex, Graph, applied, vertex, root, isVar, ends, circular}
 use Rattle.theory.specs.Unification.Count.{levels}
+use Rattle.theory.specs.Unification.Inner.{Inner}
 use Rattle.theory.specs.Unification.Forest.{Forest, root-inside, root-self}
 use Rattle.theory.specs.Unification.Acyclic.{ends-more}
 use Rattle.theory.specs.Unification.Circle.{acyclic-ends}
 use Rattle.theory.specs.Walks.Walk.{Under, under-more}
-
--- arguments are nodes
-abbrev pub Inner : Graph → Type 0
-Inner g = (x : ℕ) → x < length g → Below (length g) (vertex g x .args)
 
 -- the roots of an application's arguments; a variable has none
 unfoldable pub argRoots : Graph → ℕ → List ℕ

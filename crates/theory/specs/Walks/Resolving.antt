@@ -20,7 +20,8 @@ use Rattle.theory.specs.Walks.Machine.{Frame, turn, Stacked}
 use Rattle.theory.specs.Walks.WalkReady.{Sound, turn-going}
 use Rattle.theory.specs.Walks.Again.{headed}
 use Rattle.theory.specs.Walks.Memo.{has, has-value, has-none, value-has, has-new, has-others}
-use Rattle.theory.specs.Walks.Levels.{Inner, argRoots, roots-variable, roots-applied, args-under, rankOf, rank-most, ranks-most, roots-fall, roots-inside}
+use Rattle.theory.specs.Unification.Inner.{Inner}
+use Rattle.theory.specs.Walks.Levels.{argRoots, roots-variable, roots-applied, args-under, rankOf, rank-most, ranks-most, roots-fall, roots-inside}
 use Rattle.theory.specs.Walks.Deep.{at-same, resolve-then, resolve-one, resolve-none, resolve-deep, reads-back}
 use Rattle.theory.specs.Walks.Reading.{numberedAs, resolvedAs, later-none, Reads, ReadsAll, no-reads, reads-then, reads-later, at-read, reads-fewer}
 

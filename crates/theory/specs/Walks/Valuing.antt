@@ -17,7 +17,8 @@ use Rattle.theory.specs.Unification.Forest.{Forest, root-inside}
 use Rattle.theory.specs.Walks.Walk.{under-more}
 use Rattle.theory.specs.Walks.WalkOnce.{unfinished, unfinished-less}
 use Rattle.theory.specs.Walks.Memo.{has, has-new, has-others, none-has}
-use Rattle.theory.specs.Walks.Levels.{Inner, args-under, rankOf, rank-most, roots-fall}
+use Rattle.theory.specs.Unification.Inner.{Inner}
+use Rattle.theory.specs.Walks.Levels.{args-under, rankOf, rank-most, roots-fall}
 use Rattle.theory.specs.Walks.Ahead.{lefts, rights, ahead, ahead-pairs, ahead-says, valued-deep}
 
 -- the pairs still to be taken, and the values so far

@@ -4,7 +4,8 @@ use native.Mathlib.Omega.{arith}
 use mathlib.Core.Path.{sym, _∙_}
 use Rattle.graph.specs.Cells.{unchanged-same, laid-rows}
 use Rattle.graph.specs.Joins.{head-variable, head-other}
-use Rattle.meet.specs.Meets.{meet-left, meet-right, meet-variable, meet-differ, meet-join, meets-same, meets-bound, meets-joined, apart-rows}
+use Rattle.theory.specs.Unification.Turn.{meet-left, meet-right, meet-variable, meet-differ, meet-join}
+use Rattle.meet.specs.Meets.{meets-same, meets-bound, meets-joined, apart-rows}
 use Rattle.meet.proofs.meet.meet.Statement.{statement}
 use Rattle.meet.proofs.meet.meet.Tie as tie
 

@@ -1,1 +1,0 @@
-// What the steps of class building keep, of the definition alone. No code.
