@@ -12,7 +12,7 @@ pub struct Node(pub u32);
 impl Ground {
     // In place of an output sort: the head is a predicate, the node a judgment.
     pub const PROP: u32 = 4294967295;
-    // No ground node.
+    // No ground node: an application of the term graph has it for its sort.
     pub const NONE: u32 = 4294967295;
 }
 
@@ -24,6 +24,6 @@ impl Pattern {
 }
 
 impl Node {
-    // No node: a root has this link.
+    // No node.
     pub const NONE: u32 = 4294967295;
 }
