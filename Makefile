@@ -34,7 +34,7 @@ host: dock
 	done
 
 bench: tools dock
-	@for crate in interner unifier parser walker; do \
+	@for crate in host_store host_unify host_read host_walk; do \
 	    rt staticlib $$crate > target/$$crate.log 2>&1 || { cat target/$$crate.log; exit 1; }; \
 	done
 	@HORN_SRC=$(realpath $(HORN)) RATTLE_LIB=$(CURDIR)/target/staticlib $(CARGO) build --offline --locked --release --quiet --manifest-path tools/Cargo.toml -p bench --features original
@@ -47,12 +47,12 @@ bench: tools dock
 	@$(TOOLS)/bench check
 
 demo: tools host
-	@rt check records > target/demo.log 2>&1 || { cat target/demo.log; exit 1; }
+	@rt check list_records > target/demo.log 2>&1 || { cat target/demo.log; exit 1; }
 	@echo "The worked example (examples/nat.horn) as a pack, by certpack dump:"
 	@$(TOOLS)/certpack dump examples/nat.pack
 	@echo
-	@echo "Its records, by the proved program records (offset, kind, length of the body):"
-	@target/bin/records < examples/nat.pack
+	@echo "Its records, by the proved program list_records (offset, kind, length of the body):"
+	@target/bin/list_records < examples/nat.pack
 	@echo
 	@echo "Verdict on its steps and goals, by the library, called from C (examples/check.c):"
 	@target/host/check examples/nat.pack

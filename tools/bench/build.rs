@@ -49,13 +49,13 @@ fn named(variable: &str, what: &str, files: &[&str]) -> Vec<PathBuf> {
 fn main() {
     let archives = named(
         "RATTLE_LIB",
-        "the library's archives (it has libdock.a, libinterner.a, libparser.a, libunifier.a and libwalker.a)",
+        "the library's archives (it has libdock.a, libhost_store.a, libhost_read.a, libhost_unify.a and libhost_walk.a)",
         &[
             "libdock.a",
-            "libinterner.a",
-            "libparser.a",
-            "libunifier.a",
-            "libwalker.a",
+            "libhost_store.a",
+            "libhost_read.a",
+            "libhost_unify.a",
+            "libhost_walk.a",
         ],
     );
     if let Some(folder) = archives.first().and_then(|archive| archive.parent()) {

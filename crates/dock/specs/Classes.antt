@@ -13,10 +13,10 @@ use Rattle.definition.specs.declared.Refusal.{Refusal}
 use Rattle.theory.specs.Principal.{DemandThree}
 use Rattle.theory.specs.DemandThree.{demand-three}
 use Rattle.buffer.specs.Zero.{zeroed, zeroed-all}
-use Rattle.horn.specs.Sound.{bytes-all}
-use Rattle.build.specs.declared.build.Answer.the-variants as built
-use Rattle.sorting.specs.Comes.{Comes}
-use Rattle.dock.specs.declared.building.ClassesAnswer.{ClassesAnswer}
+use Rattle.pack_reader.specs.Sound.{bytes-all}
+use Rattle.class_build.specs.declared.build.Answer.the-variants as built
+use Rattle.dock.specs.Comes.{Comes}
+use Rattle.dock.specs.declared.classes.ClassesAnswer.{ClassesAnswer}
 
 -- what a call returns and leaves, as the definition has it: no text
 abbrev pub leftOf : ClassesAnswer → List ℕ → List ℕ → List ℕ → List ℕ → Left

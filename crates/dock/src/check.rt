@@ -1,8 +1,8 @@
 // The step check.
+use crate::check_outcome::check_outcome;
 use buffer::zero::zero_words_from;
-use call::answer::outcome_answer;
-use checking::outcome::check_outcome;
 use definition::Answer;
+use dock_call::answer::outcome_answer;
 ghost use mathlib.Core.Path.{_≡_};
 ghost use lib.ListN.{length};
 ghost use Rattle.definition.specs.Check.{CheckLeft, certCheck};

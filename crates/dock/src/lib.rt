@@ -1,3 +1,7 @@
+// What class building comes to, ahead of clearing.
+pub mod classes_outcome;
+// What the step check comes to, ahead of clearing.
+pub mod check_outcome;
 // The calls of a dock.
-pub mod building;
 pub mod check;
+pub mod classes;

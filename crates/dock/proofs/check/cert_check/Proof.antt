@@ -4,7 +4,7 @@ use mathlib.Core.Path.{ap, _∙_}
 use Prim.Native.Nat.{ℕ}
 use lib.ListN.{replicate}
 use Rattle.buffer.specs.Zero.{zeroed-all}
-use Rattle.call.specs.Outcome.{refusalOf}
+use Rattle.dock_call.specs.Outcome.{refusalOf}
 use Rattle.dock.specs.Check.{check-left, check-statement}
 use Rattle.dock.proofs.check.cert_check.Statement.{statement}
 use Rattle.dock.proofs.check.cert_check.Tie as tie

@@ -1,2 +1,0 @@
-// The variables that record 9 opens in a pattern.
-pub mod walk;

@@ -1,2 +1,0 @@
--- A pack that was read, and what judging it comes to.
-pub mod Opened

@@ -1,2 +1,0 @@
-// What the step check comes to, ahead of clearing.
-pub mod outcome;

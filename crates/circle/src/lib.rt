@@ -1,2 +1,0 @@
-// The test for circles in the term graph.
-pub mod walk;

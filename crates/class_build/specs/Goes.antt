@@ -1,0 +1,118 @@
+-- Class building part by part: all classes, then the goals; all made ready, then all classes.
+use mathlib.Core.Path.{_≡_, refl, sym, _∙_, subst}
+use mathlib.Core.List.{List}
+use Prim.Native.Nat.{ℕ, _<_}
+use native.Mathlib.Omega.{arith}
+use lib.ListN.{length}
+use Rattle.definition.specs.Pack.{Pack}
+use Rattle.definition.specs.Classes.{Built}
+use Rattle.definition.specs.declared.Refusal.{Refusal}
+use Rattle.definition.specs.declared.Refusal.the-variants as refusals
+use Rattle.memo.specs.declared.memo.Memo.{Memo}
+use Rattle.store.specs.declared.nodes.Store.{Store}
+use Rattle.pack_tables.specs.Catalog.{recordsOf, Fits}
+use Rattle.pack_tables.specs.declared.catalog.Catalog.{Catalog}
+use Rattle.pack_read.specs.Reads.{length-steps}
+use Rattle.class_keys.specs.declared.classes.Keying.{Keying}
+use Rattle.class_keys.specs.declared.classes.Counts.{Counts}
+use Rattle.class_premises.specs.declared.layout.Layout.{Layout}
+use Rattle.class_premises.specs.Standing.{Standing, standing-held}
+use Rattle.class_all.specs.All as all
+use Rattle.class_all.specs.declared.totals.Totals.{Totals}
+use Rattle.class_all.specs.declared.all.Building.the-variants as building
+use Rattle.class_build.specs.Ready.{Opened, Readies, Starts, unbuilt}
+use Rattle.class_build.specs.declared.ready.Ready.the-variants as ready
+use Rattle.class_build.specs.LeftWords.{class-words, class-fits, pattern-words, pattern-fits}
+use Rattle.class_build.specs.Build.{Ended, Testing, Ends, Begun, Beginning, Goes, Builds, run-unbuilt, run-untested, run-done}
+use Rattle.class_build.specs.declared.build.Answer.{Answer}
+use Rattle.class_build.specs.declared.build.Answer.the-variants as answers
+
+-- ---- all classes, then the goals
+module _ (bytes work class words cells : List ℕ) (c : Catalog) (k : Keying) (l : Layout) (r : Counts) (st : Store) (memo : Memo) (fill : ℕ) where
+  -- as `make_classes` asks
+  begins : (P : Pack) → Begun bytes work class words cells c k l r st memo fill P → all.Begins bytes work class words cells c k l r st memo (r .classes) fill P (unbuilt P)
+  begins P B = record { standing = B .standing; none = refl; counted = refl }
+
+  pub begins-classes : Beginning bytes work class words cells c k l r st memo fill → all.Beginning bytes work class words cells c k l st memo (r .classes) fill
+  begins-classes K = record { counts = r; pack = K .pack; built = unbuilt (K .pack); begins = begins (K .pack) (K .begun); small-cells = K .small-cells; small = K .small-class }
+
+  -- none is made
+  pub goes-unbuilt : (work′ class′ words′ cells′ : List ℕ) (x : Refusal) → all.Builds bytes work class words cells work′ class′ words′ cells′ c k l st memo (r .classes) fill (building.Refused x) → Goes bytes work class words cells class′ words′ c k l r st memo fill (answers.Refused x)
+  goes-unbuilt work′ class′ words′ cells′ x B P S same L e = run-unbuilt L P x (same L (e .class-long) ∙ B r P (unbuilt P) (begins P S) L e)
+
+  -- all are
+  module _ (work′ class′ words′ cells′ : List ℕ) (st′ : Store) (memo′ : Memo) (fill′ : ℕ) (t : Totals)
+      (B : all.Builds bytes work class words cells work′ class′ words′ cells′ c k l st memo (r .classes) fill (building.Built st′ memo′ fill′ t)) where
+    done : (P : Pack) → Begun bytes work class words cells c k l r st memo fill P → all.AllDone class words cells bytes work′ class′ words′ cells′ c k l r st′ memo′ fill′ t P (unbuilt P)
+    done P S = B .0 r P (unbuilt P) (begins P S)
+
+    ended : (P : Pack) (S : Begun bytes work class words cells c k l r st memo fill P) → Ended bytes work′ class′ words′ cells′ c k l r st′ fill′ t P (done P S .built)
+    ended P S = let D = done P S in record { memo = memo′; standing = D .standing; all = D .all; summed = D .sums }
+
+    -- the goals may be tested
+    pub goes-testing : Beginning bytes work class words cells c k l r st memo fill → length words′ ≡ length words → length cells′ ≡ length cells → Testing bytes work′ class′ words′ cells′ c k l r st′ fill′ t
+    goes-testing K w s = record { pack = K .pack; built = done (K .pack) (K .begun) .built; ended = ended (K .pack) (K .begun); room = omega (arith, K .room, w, s, B .2 .long) }
+
+    -- what they come to
+    pub goes-ended : (a : Answer) → Ends bytes work′ class′ words′ cells′ c k l r st′ fill′ t a → Goes bytes work class words cells class′ words′ c k l r st memo fill a
+    goes-ended (answers.Done n m f) N = λ P S same.
+        let D = done P S in
+        let G = N .2 P (D .built) (ended P S) in
+        let W = D .standing in
+        record {
+          built = D .built;
+          roots = G .0;
+          is = λ L e. run-done L P (D .built) (same L (e .class-long) ∙ D .is L e) (G .0) (G .1 L);
+          classes = rw (N .0) (class-words bytes work′ class′ words′ cells′ c k l r st′ memo′ fill′ P (D .built) W);
+          classes-fit = omega (arith, N .0, class-fits bytes work′ class′ words′ cells′ c k l r st′ memo′ fill′ P (D .built) W);
+          patterns = rw (N .1) (pattern-words bytes work′ class′ words′ cells′ c k l r st′ memo′ fill′ P (D .built) W);
+          patterns-fit = omega (arith, N .1, pattern-fits bytes work′ class′ words′ cells′ c k l r st′ memo′ fill′ P (D .built) W);
+          counted = G .2;
+        }
+    goes-ended (answers.Refused x) N = λ P S same L e. let D = done P S in run-untested L P (D .built) (same L (e .class-long) ∙ D .is L e) x (N P (D .built) (ended P S) L)
+
+-- ---- all made ready, then all classes
+module _ (bytes work class words cells : List ℕ) (c : Catalog) where
+  -- the class buffer is too short
+  pub builds-short : (work₁ class₁ : List ℕ) → Readies bytes work class words cells work₁ class₁ c ready.Short → (class′ words′ : List ℕ) → Builds bytes work class words cells class′ words′ c (answers.Refused (refusals.Short 1))
+  builds-short work₁ class₁ S class′ words′ P R Q L e = run-unbuilt L P (refusals.Short 1) (S P R Q .is L (e .class-long))
+
+  module _ (work₁ class₁ : List ℕ) (k : Keying) (l : Layout) (r : Counts) (st : Store) (memo : Memo) (long : length class₁ ≡ length class) (S : Readies bytes work class words cells work₁ class₁ c (ready.On k l r st memo)) where
+    -- the steps may be counted
+    pub count-there : Opened bytes work words cells c → Fits work₁ c × (4 < 9)
+    count-there O =
+        let H = O .held in
+        let A = S .0 (H .pack) (H .reads) (H .proper) in
+        (standing-held bytes work₁ class₁ words cells c k l r st memo (length (H .pack .steps)) (H .pack) (unbuilt (H .pack)) (A .standing) .cataloged .fits, omega arith)
+
+    module _ (fill : ℕ) (filled : fill ≡ length (recordsOf work₁ c 4)) where
+      -- ready for the first class
+      begun : (P : Pack) → Starts bytes class words cells work₁ class₁ c k l r st memo P → Begun bytes work₁ class₁ words cells c k l r st memo fill P
+      begun P A =
+          let e : length (P .steps) ≡ fill = length-steps bytes (recordsOf work₁ c) P (A .standing .reads) ∙ sym filled in
+          record { standing = subst (λ (n : ℕ). Standing bytes work₁ class₁ words cells c k l r st memo n P (unbuilt P)) e (A .standing) }
+
+      pub builds-begins : Opened bytes work words cells c → length class < 4294967296 → length cells < 4294967295 → Beginning bytes work₁ class₁ words cells c k l r st memo fill
+      builds-begins O small-class small-cells =
+          let H = O .held in
+          let A = S .0 (H .pack) (H .reads) (H .proper) in
+          record { pack = H .pack; begun = begun (H .pack) A; room = A .tests; small-class = omega (arith, long); small-cells = small-cells }
+
+      -- what the rest comes to
+      pub builds-on : (class′ words′ : List ℕ) (a : Answer) → Goes bytes work₁ class₁ words cells class′ words′ c k l r st memo fill a → Builds bytes work class words cells class′ words′ c a
+      builds-on class′ words′ (answers.Done n m f) G = λ P R Q.
+          let A = S .0 P R Q in
+          let N = G P (begun P A) (λ L e. A .is L (e ∙ long)) in
+          record {
+            built = N .built;
+            roots = N .roots;
+            is = λ L e. N .is L (record { class-long = e .class-long ∙ sym long; words-long = e .words-long; cells-long = e .cells-long });
+            classes = N .classes;
+            classes-fit = N .classes-fit;
+            patterns = N .patterns;
+            patterns-fit = N .patterns-fit;
+            counted = N .counted;
+          }
+      builds-on class′ words′ (answers.Refused x) G = λ P R Q L e.
+          let A = S .0 P R Q in
+          G P (begun P A) (λ K q. A .is K (q ∙ long)) L (record { class-long = e .class-long ∙ sym long; words-long = e .words-long; cells-long = e .cells-long })

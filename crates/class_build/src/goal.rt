@@ -1,0 +1,76 @@
+// One goal: its result, that one's class, and the instance test.
+use base::id::Pattern;
+use class_keys::classes::Keying;
+use class_keys::firsts::first_of;
+use class_premises::layout::Layout;
+use memo::memo::Memo;
+use pack_read::goal::goal_judgment;
+use pack_read::goal::goal_step;
+use pack_tables::catalog::Catalog;
+use pack_tables::region::Sought;
+use store::nodes::Store;
+use term_instance::instance::Matched;
+use term_instance::instance::instance;
+use term_instance::tables::Instance;
+ghost use mathlib.Core.Path.{_≡_};
+ghost use Prim.Native.Nat.{_+_, _<_};
+ghost use lib.ListN.{length, getD};
+ghost use Rattle.pack_tables.specs.Catalog.{recordsOf};
+ghost use Rattle.class_build.specs.Testable.{rowIn, Testable};
+ghost use Rattle.class_build.specs.OneGoal.{TestsOne};
+
+// A goal is met, with the memos as they are then; or it has no result, or one with another judgment; or the judgment of the result's step
+// is no instance of its class's conclusion.
+pub enum Goal {
+    Met(Memo, Memo),
+    Unmet,
+    Other(usize),
+}
+
+// The conclusion of step `f`'s class.
+fn conclusion_of(work: &[u32], class: &[u32], l: Layout, f: usize) -> Pattern
+    requires { ⌜ (f < length (now class)) × (l .rows + getD (now class) f 0 < length (now work)) × (rowIn (now work) (now class) l f < length (now class)) ⌝ }
+    ensures { λ r. ⌜ r .0 ≡ getD (now (class .entry)) (rowIn (now (work .entry)) (now (class .entry)) l f) 0 ⌝ }
+{
+    let at = l.rows + class[f] as usize;
+    let row = work[at] as usize;
+    Pattern(class[row])
+}
+
+// Goal `g` is tested.
+pub fn test_goal(
+    pack: &[u8],
+    work: &mut [u32],
+    class: &[u32],
+    words: &[u32],
+    c: Catalog,
+    k: Keying,
+    l: Layout,
+    t: Instance,
+    st: Store,
+    seen: Memo,
+    values: Memo,
+    g: usize,
+) -> Goal
+    requires { ⌜ Testable (now pack) (now work) (now class) (now words) c k l t st seen values × (g < length (recordsOf (now work) c 5)) ⌝ }
+    ensures { λ r. ⌜ TestsOne (now (pack .entry)) (now (work .entry)) (now (work .exit)) (now (class .entry)) (now (words .entry)) c k l t st g r ⌝ }
+{
+    match goal_step(pack, work, c, g) {
+        Sought::At(s) => {
+            let f = first_of(pack, work, c, k.at, s);
+            let p = conclusion_of(work, class, l, f);
+            let m = goal_judgment(pack, work, c, g);
+            match instance(pack, work, words, c, t, st, seen, values, p, m) {
+                Matched::Yes(seen, values) => {
+                    return Goal::Met(seen, values);
+                }
+                Matched::No => {
+                    return Goal::Other(s);
+                }
+            }
+        }
+        Sought::Nowhere => {
+            return Goal::Unmet;
+        }
+    }
+}

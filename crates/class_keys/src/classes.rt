@@ -1,0 +1,59 @@
+// The words of the classes: the first step of each, and how many steps it has.
+ghost use mathlib.Core.Path.{_≡_};
+ghost use Prim.Native.Nat.{_+_, _*_, _<_, _≤_};
+ghost use lib.ListN.{length};
+ghost use Rattle.class_keys.specs.ClassWords.{firstIn, countIn, slotsAt, joined, begun};
+
+// Where the keys have their words in work: for each ground node that a step has as its judgment the first such step; behind these
+// words each class's first step; behind these how many steps it has; behind these the slots of a probe table of the classes' keys.
+// There is room for `cap` nodes and as many steps.
+pub struct Keying {
+    pub at: usize,
+    pub cap: usize,
+}
+
+// How many classes there are, and how many needed steps.
+pub struct Counts {
+    pub classes: usize,
+    pub needed: usize,
+}
+
+// The first step of class `i`.
+pub fn class_first(work: &[u32], k: Keying, i: usize) -> usize
+    requires { ⌜ k .at + k .cap + i < length (now work) ⌝ }
+    ensures { λ r. ⌜ r ≡ firstIn (now (work .entry)) k i ⌝ }
+{
+    let p = k.at + k.cap + i;
+    work[p] as usize
+}
+
+// How many steps it has.
+pub fn class_count(work: &[u32], k: Keying, i: usize) -> usize
+    requires { ⌜ k .at + 2 * k .cap + i < length (now work) ⌝ }
+    ensures { λ r. ⌜ r ≡ countIn (now (work .entry)) k i ⌝ }
+{
+    let p = k.at + 2 * k.cap + i;
+    work[p] as usize
+}
+
+// It has one step more.
+pub fn join_class(work: &mut [u32], k: Keying, i: usize)
+    requires { ⌜ (k .at + 2 * k .cap + i < length (now work)) × (countIn (now work) k i < 4294967295) ⌝ }
+    ensures { λ _. ⌜ now (work .exit) ≡ joined (now (work .entry)) k i ⌝ }
+{
+    let p = k.at + 2 * k.cap + i;
+    work[p] = work[p] + 1;
+}
+
+// Class `m` begins with step `s`, and slot `t` holds it.
+pub fn begin_class(work: &mut [u32], k: Keying, m: usize, t: usize, s: usize)
+    requires { ⌜ (m ≤ k .cap) × (slotsAt k + t < length (now work)) × (m < 4294967295) × (s < 4294967296) ⌝ }
+    ensures { λ _. ⌜ now (work .exit) ≡ begun (now (work .entry)) k m t s ⌝ }
+{
+    let p = k.at + k.cap + m;
+    work[p] = s as u32;
+    let q = k.at + 2 * k.cap + m;
+    work[q] = 1;
+    let r = k.at + 3 * k.cap + t;
+    work[r] = m as u32 + 1;
+}

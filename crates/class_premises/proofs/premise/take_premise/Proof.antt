@@ -1,0 +1,36 @@
+-- `take_premise` meets its contract.
+use borrow.Author.Needs.{needs}
+use Rattle.class_premises.specs.Takes.{taking-copying, takes-full, taking-meeting, takes-met}
+use Rattle.class_premises.proofs.premise.take_premise.Statement.{statement}
+use Rattle.class_premises.proofs.premise.take_premise.Tie as tie
+
+copy-class-requires : tie.Need-copy-class-requires
+copy-class-requires c κs = taking-copying _ _ _ _ _ _ _ _ _ _ _ _ (c .before .before .before .before .before .before .before .before .before .pre)
+
+meet-premise-requires : tie.Need-meet-premise-requires
+meet-premise-requires c κs = taking-meeting _ _ _ _ _ _ _ _ _ _ _ _ (c .before .before .before .before .before .before .before .before .before .before .before .before .before .before .before .before .before .before .before .pre) _ _ _ _ _ (rw (c .before .before .before .y .given .1) at (c .before .before .before .before .before .before .before .before .before .copy-class .ensures)) (c .before .before .before .before .before .before .before .before .before .copy-class .kept .1 .1 .1 .0)
+
+returns : tie.Need-returns
+returns c = takes-met _ _ _ _ _ _ _ _ _ _ _ _ (c .before .before .before .before .before .before .before .before .before .before .before .before .before .before .before .before .before .before .before .before .before .before .before .before .pre) _ _ _ _ _ (rw (c .before .before .before .before .before .before .before .before .y .given .1) at (c .before .before .before .before .before .before .before .before .before .before .before .before .before .before .copy-class .ensures)) (c .before .before .before .before .before .before .before .before .before .before .before .before .before .before .copy-class .kept .1 .1 .1 .0) (c .before .before .before .before .meet-premise .last .1 .0) (c .before .before .before .before .meet-premise .last .1 .1 .0) (c .before .before .before .before .meet-premise .result) (c .before .before .before .before .meet-premise .ensures)
+
+returns-2 : tie.Need-returns-2
+returns-2 c = takes-full _ _ _ _ _ _ _ _ _ _ _ _ (c .before .before .before .before .before .before .before .before .before .before .before .before .before .before .before .before .pre) (c .before .before .before .before .before .before .copy-class .last .0) (c .before .before .before .before .before .before .copy-class .last .1 .1 .1 .0) (rw (c .enum-told .given .1) at (c .before .before .before .before .before .before .copy-class .ensures))
+
+pub take-premise-spec : {M : Type 1} → statement M
+take-premise-spec =
+    tie.close
+    (tie.spec
+    (λ c. search needs)
+    (λ c. search needs)
+    (λ c. search needs)
+    (λ c. search needs)
+    copy-class-requires
+    (λ c. search needs)
+    meet-premise-requires
+    (λ c. search needs)
+    (λ c. search needs)
+    (λ c. search needs)
+    returns
+    (λ c. search needs)
+    (λ c. search needs)
+    returns-2)

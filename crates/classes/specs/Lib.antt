@@ -1,3 +1,0 @@
--- The classes of a pack, made: what is asked, and what is answered.
-pub mod Class
-pub mod All

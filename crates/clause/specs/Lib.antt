@@ -1,2 +1,0 @@
--- A rule's terms as they are spelt.
-pub mod Spelt

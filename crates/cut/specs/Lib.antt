@@ -1,4 +1,0 @@
--- What making a cut class owes to the definition.
-pub mod Fresh
-pub mod Conclusion
-pub mod Making

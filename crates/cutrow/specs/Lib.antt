@@ -1,2 +1,0 @@
--- The row of a cut class, word by word.
-pub mod Marks

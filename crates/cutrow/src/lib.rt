@@ -1,2 +1,0 @@
-// The row of a cut class: all its variables are flexible.
-pub mod row;

@@ -1,3 +1,0 @@
--- A cut record, and the marks of cut predicates.
-pub mod Cut
-pub mod Marks

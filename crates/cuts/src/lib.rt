@@ -1,2 +1,0 @@
-// A cut record taken up, and the predicates marked as cut.
-pub mod cut;

@@ -1,2 +1,0 @@
-// The class that a step's rule makes, whole.
-pub mod make;

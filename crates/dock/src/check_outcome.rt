@@ -1,0 +1,45 @@
+// The step check's outcome, ahead of clearing.
+use check_steps::verdict::Verdict;
+use check_steps::verdict::pack_verdict;
+use definition::Refusal;
+use dock_call::answer::Outcome;
+use dock_call::lent::Lent;
+use dock_call::opening::open_pack;
+use pack_reader::read::tables;
+ghost use mathlib.Core.Path.{_≡_};
+ghost use lib.ListN.{length};
+ghost use Rattle.definition.specs.Check.{checkRefusal};
+ghost use Rattle.dock_call.specs.Outcome.{refusalOf};
+ghost use Rattle.dock.specs.Opened.{Opened, Judged};
+
+// The verdict on a pack that was read.
+fn verdict_outcome(pack: &[u8], work: &[u32]) -> Outcome
+    requires { ⌜ Opened (now pack) (now work) ⌝ }
+    ensures { λ r. ⌜ Judged (now (pack .entry)) (now (work .entry)) r ⌝ }
+{
+    let c = tables(pack);
+    match pack_verdict(pack, work, c) {
+        Verdict::Accepted => Outcome::Done,
+        Verdict::Step(i) => Outcome::Refused(Refusal::Step(i as u64)),
+        Verdict::Goal(g) => Outcome::Refused(Refusal::Goal(g as u64)),
+    }
+}
+
+// The lengths tested, the pack read, its steps and goals judged. What stands in work then is the call's to clear.
+pub fn check_outcome(pack: &[u8], work: &mut [u32]) -> Outcome
+    ensures { λ r. ⌜ refusalOf r ≡ checkRefusal (now (pack .entry)) (length (now (work .entry))) ⌝ }
+{
+    let lent = Lent {
+        pack: pack.len(),
+        class: 0,
+        pattern: 0,
+        graph: 0,
+        work: work.len(),
+        text: 0,
+        goals: 0,
+    };
+    match open_pack(lent, pack, work) {
+        Outcome::Done => verdict_outcome(pack, work),
+        Outcome::Refused(r) => Outcome::Refused(r),
+    }
+}

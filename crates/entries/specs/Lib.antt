@@ -1,2 +1,0 @@
--- What reading the copies' variables back answers.
-pub mod Entries

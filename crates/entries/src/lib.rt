@@ -1,2 +1,0 @@
-// The variables of the copies read back.
-pub mod entries;

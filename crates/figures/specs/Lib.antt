@@ -1,3 +1,0 @@
--- What the figures owe to the definition.
-pub mod Slots
-pub mod Figures

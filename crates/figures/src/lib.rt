@@ -1,3 +1,0 @@
-// The figures of class building.
-pub mod figures;
-pub mod histogram;

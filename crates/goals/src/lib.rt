@@ -1,4 +1,0 @@
-// The goals' tests behind class building.
-pub mod each;
-pub mod goals;
-pub mod one;

@@ -1,0 +1,35 @@
+// Where lifting's words stand in work, and an empty store behind them.
+use pack_tables::catalog::Catalog;
+use store::nodes::Store;
+use term_lift::lift::Lifted;
+ghost use Prim.Native.Nat.{_≤_, _<_};
+ghost use lib.ListN.{length};
+ghost use Rattle.pack_read.specs.Held.{Held};
+ghost use Rattle.host_walk.specs.Places.{Sized, Lays, Stores};
+
+// Lifting's words stand behind the pack's tables and the marks of its cuts, with the store's index behind them.
+pub fn lifting(work: &[u32], words: &[u32], c: Catalog) -> Lifted
+    requires { ⌜ Sized (now work) (length (now words)) c ⌝ }
+    ensures { λ r. ⌜ Lays (now (work .entry)) (length (now (words .entry))) c r ⌝ }
+{
+    let at = c.at + 9 * (5 * c.cap + 2) + c.cap;
+    let nodes = c.count(work, 3);
+    let end = at + 3 * nodes + (4 * (words.len() / 2) + 1);
+    Lifted {
+        at: at,
+        nodes: nodes,
+        end: end,
+    }
+}
+
+// A store without nodes, and nothing is lifted.
+pub fn open_store(pack: &[u8], work: &mut [u32], words: &[u32], c: Catalog, l: Lifted) -> Store
+    requires { ⌜ Held (now pack) (now work) c × Lays (now work) (length (now words)) c l × (l .end ≤ length (now work)) × (length (now words) < 4294967295) ⌝ }
+    ensures { λ r. ⌜ Stores (now (pack .entry)) (now (work .entry)) (now (work .exit)) (now (words .entry)) c l r ⌝ }
+{
+    let from = l.at + 3 * l.nodes;
+    let end = l.end;
+    let st = Store::new(&mut work[from..end], words);
+    l.clear(work);
+    st
+}

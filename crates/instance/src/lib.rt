@@ -1,3 +1,0 @@
-// The instance test: a pattern of the store against a ground node of the pack.
-pub mod tables;
-pub mod walk;

@@ -1,2 +1,0 @@
-// Ground nodes lifted into the interned store.
-pub mod walk;

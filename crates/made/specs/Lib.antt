@@ -1,3 +1,0 @@
--- One class's answer, and the sums over all.
-pub mod Answer
-pub mod Totals

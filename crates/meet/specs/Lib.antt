@@ -1,3 +1,0 @@
--- A turn of unification: the pairs left, and what two roots come to.
-pub mod Pairs
-pub mod Meets

@@ -1,2 +1,0 @@
--- Goals and the results of their names.
-pub mod Goals

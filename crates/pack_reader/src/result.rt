@@ -1,0 +1,29 @@
+// Results.
+use crate::taken::Taken;
+use buffer::little::u32_at;
+use pack_tables::catalog::Catalog;
+use pack_tables::name::is_name;
+use pack_tables::region::Entered;
+ghost use Rattle.definition.specs.Certificate.{takeResult};
+ghost use Rattle.pack_reader.specs.Taking.{Reading, Whole, behind, Takes};
+
+// A result: a step that was given, and a name.
+pub fn take_result(pack: &[u8], body: &[u8], work: &mut [u32], c: Catalog, at: usize) -> Taken
+    requires { ⌜ Reading (now pack) (now work) c at × Whole (now pack) (now body) at ⌝ }
+    ensures { λ r. ⌜ Takes (now (pack .entry)) (now (work .entry)) (now (work .exit)) c 6 (behind at (now (body .entry))) (λ P. takeResult P (now (body .entry))) r ⌝ }
+{
+    if body.len() < 4 {
+        return Taken::Bad;
+    }
+    let step = u32_at(body, 0) as usize;
+    if c.count(work, 4) <= step {
+        return Taken::Bad;
+    }
+    if !is_name(&body[4..]) {
+        return Taken::Bad;
+    }
+    match c.enter(pack, work, 6, at, at + 6 + 4) {
+        Entered::New => Taken::Good,
+        Entered::Old => Taken::Bad,
+    }
+}

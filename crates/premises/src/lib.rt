@@ -1,2 +1,0 @@
-// All premises of the step that makes a class.
-pub mod premises;

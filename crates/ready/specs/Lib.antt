@@ -1,4 +1,0 @@
--- What stands ready before the first class is made.
-pub mod Places
-pub mod Tables
-pub mod Ready

@@ -1,2 +1,0 @@
-// One kind of record in work: its records by number, and by key.
-pub mod region;

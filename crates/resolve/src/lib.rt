@@ -1,2 +1,0 @@
-// A graph node read back as a pattern.
-pub mod walk;

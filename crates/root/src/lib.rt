@@ -1,2 +1,0 @@
-// One root of a graph read back as a pattern, behind its arguments.
-pub mod root;

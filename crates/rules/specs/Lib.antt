@@ -1,4 +1,0 @@
--- The classes of rules.
-pub mod Stages
-pub mod Valuing
-pub mod Solves

@@ -1,2 +1,0 @@
-// The class that a step makes by its rule.
-pub mod solve;

@@ -1,2 +1,0 @@
--- What class building comes to, of the lengths lent.
-pub mod Comes

@@ -1,2 +1,0 @@
-// What class building comes to, ahead of clearing.
-pub mod outcome;

@@ -1,2 +1,0 @@
-// The table that reading back keeps in work, and what it asks of single nodes.
-pub mod words;

@@ -1,0 +1,2 @@
+// Ground nodes lifted into the interned store.
+pub mod lift;

@@ -1,0 +1,175 @@
+// Graph terms read back as patterns, arguments first: a walk by a stack that reads each root once.
+use crate::root::Resolved;
+use crate::root::read_root;
+use crate::table::Table;
+use crate::table::argument_root;
+use crate::table::count;
+use crate::table::put_word;
+use crate::table::word_at;
+use base::id::Node;
+use base::id::Pattern;
+use buffer::zero::zero_words;
+use graph::graph::Graph;
+use pack_tables::catalog::Catalog;
+use store::nodes::Store;
+use term_lift::lift::Lifted;
+ghost use mathlib.Core.Path.{_≡_};
+ghost use Prim.Native.Nat.{_+_, _<_, _≤_};
+ghost use lib.Dec.{eqb, ltb};
+ghost use lib.ListN.{length, getD};
+ghost use Rattle.definition.specs.Test.{_and_};
+ghost use Rattle.term_readback.specs.Words.{patternsAt, tableEnd, tableIn, Ready};
+ghost use Rattle.term_readback.specs.Asked.{Asking};
+ghost use Rattle.term_readback.specs.Stacks.{Entering, Enters, Begins, Turning, Advances, Clears, Answers};
+
+// So many frames stand on the stack, the store as it is then, and so many variables are numbered; or there is no room for a node.
+enum Turn {
+    On(usize, Store, usize),
+    Short,
+}
+
+// Nothing was read back.
+pub fn clear(work: &mut [u32], cells: &[u32], t: Table, g: Graph)
+    requires { ⌜ (t .at + tableEnd (now cells) ≤ t .end) × (t .end ≤ length (now work)) × (g .nodes ≤ length (now cells)) ⌝ }
+    ensures { λ _. ⌜ Clears (now (work .entry)) (now (work .exit)) (now (cells .entry)) t g ⌝ }
+{
+    let from = t.at + 9 * cells.len() + 7;
+    let end = from + g.nodes;
+    zero_words(&mut work[from..end]);
+}
+
+// Whether a frame is dropped: it is new, and its root was read back.
+fn passes(work: &[u32], cells: &[u32], t: Table, x: Node, taken: u32) -> bool
+    requires { ⌜ (t .at + (patternsAt (now cells) + x .0) < t .end) × (t .end ≤ length (now work)) ⌝ }
+    ensures { λ r. ⌜ r ≡ (eqb taken 0 and ltb 0 (getD (tableIn t (now (work .entry))) (patternsAt (now (cells .entry)) + x .0) 0)) ⌝ }
+{
+    if taken != 0 {
+        return false;
+    }
+    0 < word_at(work, t, 9 * cells.len() + 7 + x.0 as usize)
+}
+
+// One argument more of `x` is taken by the frame above `top` others, and its root gets a frame above it.
+fn enter(work: &mut [u32], cells: &[u32], t: Table, g: Graph, top: usize, x: Node, taken: u32)
+    requires { ⌜ Entering (now cells) (now work) t g top (x .0) taken ⌝ }
+    ensures { λ _. ⌜ Enters (now (cells .entry)) (now (work .entry)) (now (work .exit)) t g top (x .0) taken ⌝ }
+{
+    let r = argument_root(work, cells, t, g, x, taken as usize);
+    let at = 5 * cells.len() + 5 + 2 * top;
+    put_word(work, t, at + 1, taken + 1);
+    put_word(work, t, at + 2, r.0);
+    put_word(work, t, at + 3, 0);
+}
+
+// The root of node `x`, which gets the first frame.
+fn begin(work: &mut [u32], cells: &[u32], t: Table, g: Graph, x: Node) -> Node
+    requires { ⌜ Asking (now cells) (now work) t g (x .0) ⌝ }
+    ensures { λ r. ⌜ Begins (now (cells .entry)) (now (work .entry)) (now (work .exit)) t g (x .0) (r .0) ⌝ }
+{
+    let a = t.at;
+    let e = t.end;
+    let r = g.find(cells, &mut work[a..e], x);
+    let at = 5 * cells.len() + 5;
+    put_word(work, t, at, r.0);
+    put_word(work, t, at + 1, 0);
+    r
+}
+
+// One turn on the frame above `top` others: it is dropped if its root was read back; else the next argument's root gets a frame above
+// it; else its root is read back and it is dropped.
+fn advance(
+    pack: &[u8],
+    work: &mut [u32],
+    words: &mut [u32],
+    cells: &[u32],
+    c: Catalog,
+    l: Lifted,
+    t: Table,
+    st: Store,
+    g: Graph,
+    numbered: usize,
+    everyone: bool,
+    top: usize,
+) -> Turn
+    requires { ⌜ Turning (now pack) (now work) (now words) (now cells) c l t st g numbered everyone top ⌝ }
+    ensures { λ r. ⌜ Advances (now (pack .entry)) (now (work .entry)) (now (words .entry)) (now (work .exit)) (now (words .exit)) (now (cells .entry)) c l t st g numbered everyone top r ⌝ }
+{
+    let at = 5 * cells.len() + 5 + 2 * top;
+    let x = Node(word_at(work, t, at));
+    let taken = word_at(work, t, at + 1);
+    if passes(work, cells, t, x, taken) {
+        return Turn::On(top, st, numbered);
+    }
+    if (taken as usize) < count(work, cells, t, g, x) {
+        enter(work, cells, t, g, top, x, taken);
+        return Turn::On(top + 2, st, numbered);
+    }
+    match read_root(
+        pack,
+        work,
+        words,
+        cells,
+        c,
+        l,
+        t,
+        st,
+        g,
+        numbered,
+        everyone,
+        x,
+    ) {
+        Resolved::Read(_, more, n) => Turn::On(top, more, n),
+        Resolved::Short => Turn::Short,
+    }
+}
+
+// The pattern of node `x`, the store that has it, and how many variables are numbered then; or that there is no room for it.
+pub fn resolve(
+    pack: &[u8],
+    work: &mut [u32],
+    words: &mut [u32],
+    cells: &[u32],
+    c: Catalog,
+    l: Lifted,
+    t: Table,
+    st: Store,
+    g: Graph,
+    numbered: usize,
+    everyone: bool,
+    x: Node,
+) -> Resolved
+    requires { ⌜ Ready (now pack) (now work) (now words) (now cells) c l t st g numbered everyone × (x .0 < g .nodes) ⌝ }
+    ensures { λ r. ⌜ Answers (now (pack .entry)) (now (work .entry)) (now (words .entry)) (now (work .exit)) (now (words .exit)) (now (cells .entry)) c l t st g numbered everyone (x .0) r ⌝ }
+{
+    let r = begin(work, cells, t, g, x);
+    let mut top: usize = 1;
+    let mut grown = st;
+    let mut n = numbered;
+    while 0 < top {
+        match advance(
+            pack,
+            work,
+            words,
+            cells,
+            c,
+            l,
+            t,
+            grown,
+            g,
+            n,
+            everyone,
+            top - 1,
+        ) {
+            Turn::On(left, more, m) => {
+                top = left;
+                grown = more;
+                n = m;
+            }
+            Turn::Short => {
+                return Resolved::Short;
+            }
+        }
+    }
+    let word = word_at(work, t, 9 * cells.len() + 7 + r.0 as usize);
+    Resolved::Read(Pattern(word - 1), grown, n)
+}

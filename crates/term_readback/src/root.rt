@@ -1,0 +1,204 @@
+// One root read back whose arguments' roots were: a variable by its number or its ground value, an application over its arguments.
+use crate::table::Table;
+use crate::table::intern_key;
+use crate::table::key_of;
+use crate::table::numbers;
+use crate::table::put_word;
+use crate::table::said;
+use crate::table::word_at;
+use base::id::Ground;
+use base::id::Node;
+use base::id::Pattern;
+use graph::graph::Graph;
+use pack_tables::catalog::Catalog;
+use store::nodes::Interned;
+use store::nodes::Store;
+use term_lift::lift::Lifted;
+use term_lift::lift::lift;
+ghost use Rattle.term_readback.specs.Roots.{Opening, Variable, Any, Gives, Naming, Names, Valuing, Values, Applying, Applies, Notes};
+
+// What was read: the pattern, the store with it, and how many variables are numbered; or that the words have no room.
+pub enum Resolved {
+    Read(Pattern, Store, usize),
+    Short,
+}
+
+// Variable `x` by the next number.
+fn read_number(
+    work: &mut [u32],
+    words: &mut [u32],
+    cells: &[u32],
+    l: Lifted,
+    t: Table,
+    st: Store,
+    g: Graph,
+    numbered: usize,
+    x: Node,
+) -> Resolved
+    requires { ⌜ Naming (now work) (now words) (now cells) l t st g numbered (x .0) ⌝ }
+    ensures { λ r. ⌜ Names (now (work .entry)) (now (words .entry)) (now (work .exit)) (now (words .exit)) (now (cells .entry)) l t st g numbered (x .0) r ⌝ }
+{
+    let a = t.at;
+    let e = t.end;
+    let sort = g.sort(cells, &work[a..e], x);
+    let mut key = [0; 3];
+    key[0] = Pattern::VAR;
+    key[1] = numbered as u32;
+    key[2] = sort;
+    match intern_key(work, words, l, st, &key) {
+        Interned::Id(p, more) => {
+            put_word(work, t, 10 * cells.len() + 7 + numbered, x.0);
+            Resolved::Read(p, more, numbered + 1)
+        }
+        Interned::Short => Resolved::Short,
+    }
+}
+
+// Variable `x` by its ground value; one without a value, which nothing asks for, by the first ground node.
+fn read_value(
+    pack: &[u8],
+    work: &mut [u32],
+    words: &mut [u32],
+    cells: &[u32],
+    c: Catalog,
+    l: Lifted,
+    t: Table,
+    st: Store,
+    numbered: usize,
+    x: Node,
+) -> Resolved
+    requires { ⌜ Valuing (now pack) (now work) (now words) (now cells) c l t st numbered (x .0) ⌝ }
+    ensures { λ r. ⌜ Values (now (pack .entry)) (now (work .entry)) (now (words .entry)) (now (work .exit)) (now (words .exit)) (now (cells .entry)) c l t st numbered (x .0) r ⌝ }
+{
+    let value = said(word_at(work, t, 8 * cells.len() + 7 + x.0 as usize));
+    match lift(pack, work, words, c, l, st, Ground(value)) {
+        Interned::Id(p, more) => Resolved::Read(p, more, numbered),
+        Interned::Short => Resolved::Short,
+    }
+}
+
+// Variable `x`, which has no number.
+fn read_variable(
+    pack: &[u8],
+    work: &mut [u32],
+    words: &mut [u32],
+    cells: &[u32],
+    c: Catalog,
+    l: Lifted,
+    t: Table,
+    st: Store,
+    g: Graph,
+    numbered: usize,
+    everyone: bool,
+    x: Node,
+) -> Resolved
+    requires { ⌜ Opening (now pack) (now work) (now words) (now cells) c l t st g numbered everyone (x .0) (Variable (x .0)) ⌝ }
+    ensures { λ r. ⌜ Gives (now (pack .entry)) (now (work .entry)) (now (words .entry)) (now (work .exit)) (now (words .exit)) (now (cells .entry)) c l t st g numbered everyone (x .0) (Variable (x .0)) r ⌝ }
+{
+    if numbers(work, cells, t, g, x, everyone) {
+        return read_number(work, words, cells, l, t, st, g, numbered, x);
+    }
+    read_value(pack, work, words, cells, c, l, t, st, numbered, x)
+}
+
+// Application `x` over what its arguments' roots were read back as.
+fn read_applied(
+    work: &mut [u32],
+    words: &mut [u32],
+    cells: &[u32],
+    l: Lifted,
+    t: Table,
+    st: Store,
+    g: Graph,
+    numbered: usize,
+    x: Node,
+) -> Resolved
+    requires { ⌜ Applying (now work) (now words) (now cells) l t st g numbered (x .0) ⌝ }
+    ensures { λ r. ⌜ Applies (now (work .entry)) (now (words .entry)) (now (work .exit)) (now (words .exit)) (now (cells .entry)) l t st g numbered (x .0) r ⌝ }
+{
+    let mut key = [0; 17];
+    let k = key_of(work, cells, t, g, x, &mut key);
+    match intern_key(work, words, l, st, &key[0..k]) {
+        Interned::Id(p, more) => Resolved::Read(p, more, numbered),
+        Interned::Short => Resolved::Short,
+    }
+}
+
+// Root `x`, whichever it is.
+fn read_either(
+    pack: &[u8],
+    work: &mut [u32],
+    words: &mut [u32],
+    cells: &[u32],
+    c: Catalog,
+    l: Lifted,
+    t: Table,
+    st: Store,
+    g: Graph,
+    numbered: usize,
+    everyone: bool,
+    x: Node,
+) -> Resolved
+    requires { ⌜ Opening (now pack) (now work) (now words) (now cells) c l t st g numbered everyone (x .0) Any ⌝ }
+    ensures { λ r. ⌜ Gives (now (pack .entry)) (now (work .entry)) (now (words .entry)) (now (work .exit)) (now (words .exit)) (now (cells .entry)) c l t st g numbered everyone (x .0) Any r ⌝ }
+{
+    let a = t.at;
+    let e = t.end;
+    if g.head(cells, &work[a..e], x) == Pattern::VAR {
+        return read_variable(
+            pack,
+            work,
+            words,
+            cells,
+            c,
+            l,
+            t,
+            st,
+            g,
+            numbered,
+            everyone,
+            x,
+        );
+    }
+    read_applied(work, words, cells, l, t, st, g, numbered, x)
+}
+
+// Root `x` is read back and has its pattern's word from then on.
+pub fn read_root(
+    pack: &[u8],
+    work: &mut [u32],
+    words: &mut [u32],
+    cells: &[u32],
+    c: Catalog,
+    l: Lifted,
+    t: Table,
+    st: Store,
+    g: Graph,
+    numbered: usize,
+    everyone: bool,
+    x: Node,
+) -> Resolved
+    requires { ⌜ Opening (now pack) (now work) (now words) (now cells) c l t st g numbered everyone (x .0) Any ⌝ }
+    ensures { λ r. ⌜ Notes (now (pack .entry)) (now (work .entry)) (now (words .entry)) (now (work .exit)) (now (words .exit)) (now (cells .entry)) c l t st g numbered everyone (x .0) r ⌝ }
+{
+    match read_either(
+        pack,
+        work,
+        words,
+        cells,
+        c,
+        l,
+        t,
+        st,
+        g,
+        numbered,
+        everyone,
+        x,
+    ) {
+        Resolved::Read(p, more, n) => {
+            put_word(work, t, 9 * cells.len() + 7 + x.0 as usize, p.0 + 1);
+            Resolved::Read(p, more, n)
+        }
+        Resolved::Short => Resolved::Short,
+    }
+}

@@ -1,2 +1,0 @@
-// A rule's terms, read in place.
-pub mod terms;

@@ -1,2 +1,0 @@
--- Unification by a worklist: all turns.
-pub mod Unifies

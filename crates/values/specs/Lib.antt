@@ -1,3 +1,0 @@
--- Ground values of a rule's premises.
-pub mod One
-pub mod All

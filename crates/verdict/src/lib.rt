@@ -1,5 +1,0 @@
-// The verdict on the steps and the goals of a pack that was read.
-pub mod failing;
-pub mod goals;
-pub mod steps;
-pub mod verdict;
