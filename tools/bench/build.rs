@@ -61,7 +61,7 @@ fn main() {
     if let Some(folder) = archives.first().and_then(|archive| archive.parent()) {
         println!("cargo::rustc-link-search=native={}", folder.display());
     }
-    for archive in ["dock", "interner", "parser", "unifier", "walker"] {
+    for archive in ["dock", "host_store", "host_read", "host_unify", "host_walk"] {
         println!("cargo::rustc-link-lib=static={archive}");
     }
 

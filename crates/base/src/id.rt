@@ -27,3 +27,11 @@ impl Node {
     // No node.
     pub const NONE: u32 = 4294967295;
 }
+
+// A prefix word of a rule: a symbol's number, or a variable's behind VAR.
+pub struct Prefix(pub u32);
+
+impl Prefix {
+    // "2^31 + variable number": the first variable.
+    pub const VAR: u32 = 2147483648;
+}

@@ -2,5 +2,6 @@
 pub mod copy;
 pub mod hash;
 pub mod id;
+pub mod limit;
 pub mod same;
 pub mod stack;

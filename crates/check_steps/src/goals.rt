@@ -26,7 +26,7 @@ pub fn failing_goal(pack: &[u8], work: &[u32], c: Catalog) -> Failing
     requires { ⌜ Held (now pack) (now work) c ⌝ }
     ensures { λ r. ⌜ OfHeld (now (pack .entry)) (now (work .entry)) c (λ P. failingOf r ≡ firstFailing (met P) (P .goals) 0) ⌝ }
 {
-    let goals = c.count(work, 5);
+    let goals = c.count(work, Catalog::GOALS);
     let mut g: usize = 0;
     while g < goals {
         if !goal_is_met(pack, work, c, g) {

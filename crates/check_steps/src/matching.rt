@@ -2,6 +2,7 @@
 use crate::pending::push_arguments;
 use crate::values::bind;
 use base::id::Ground;
+use base::id::Prefix;
 use base::stack::Popped;
 use base::stack::Stack;
 use buffer::zero::zero_words;
@@ -45,8 +46,8 @@ fn match_turn(
     match s.pop(stack) {
         Popped::Word(n, rest) => {
             let w = rule_word(pack, work, c, r, vars, i);
-            if 2147483648 <= w {
-                if bind(values, (w - 2147483648) as usize, n) {
+            if Prefix::VAR <= w {
+                if bind(values, (w - Prefix::VAR) as usize, n) {
                     return Turn::Next(rest);
                 }
                 return Turn::Fails;

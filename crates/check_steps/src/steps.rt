@@ -2,6 +2,7 @@
 use crate::failing::Failing;
 use crate::matching::rule_matches;
 use crate::pending::push_judgments;
+use base::limit::Limit;
 use pack_read::step::step_rule;
 use pack_tables::catalog::Catalog;
 ghost use mathlib.Core.Path.{_≡_};
@@ -34,9 +35,9 @@ pub fn failing_step(pack: &[u8], work: &[u32], c: Catalog) -> Failing
     requires { ⌜ Held (now pack) (now work) c ⌝ }
     ensures { λ r. ⌜ OfHeld (now (pack .entry)) (now (work .entry)) c (λ P. failingOf r ≡ firstFailing (passes P) (P .steps) 0) ⌝ }
 {
-    let mut stack = [0; 256];
-    let mut values = [0; 64];
-    let steps = c.count(work, 4);
+    let mut stack = [0; Limit::WORDS];
+    let mut values = [0; Limit::VARIABLES];
+    let steps = c.count(work, Catalog::STEPS);
     let mut i: usize = 0;
     while i < steps {
         if !step_passes(pack, work, c, i, &mut stack, &mut values) {

@@ -3,6 +3,7 @@ use crate::answer::ClassMade;
 use crate::class::make_class;
 use crate::totals::Totals;
 use crate::totals::add_counted;
+use base::limit::Limit;
 use class_keys::classes::Keying;
 use class_premises::layout::Layout;
 use definition::Refusal;
@@ -99,9 +100,9 @@ pub fn make_classes(
     requires { ⌜ Beginning (now pack) (now work) (now class) (now words) (now cells) c k l st memo count fill ⌝ }
     ensures { λ r. ⌜ Builds (now (pack .entry)) (now (work .entry)) (now (class .entry)) (now (words .entry)) (now (cells .entry)) (now (work .exit)) (now (class .exit)) (now (words .exit)) (now (cells .exit)) c k l st memo count fill r ⌝ }
 {
-    let mut env = [0; 64];
-    count_up(&mut env, 64);
-    let mut instances = [0; 16];
+    let mut env = [0; Limit::VARIABLES];
+    count_up(&mut env, Limit::VARIABLES);
+    let mut instances = [0; Limit::PREMISES];
     build_classes(
         pack,
         work,

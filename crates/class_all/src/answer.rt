@@ -2,6 +2,7 @@
 use class_cut::cut::CutMade;
 use class_rule::rule::Counted;
 use class_rule::rule::RuleMade;
+use definition::Buffer;
 use definition::Refusal;
 use memo::memo::Memo;
 use store::nodes::Store;
@@ -29,8 +30,8 @@ pub fn cut_made(m: CutMade, memo: Memo) -> ClassMade
             };
             ClassMade::Made(st, memo, fill, f)
         }
-        CutMade::ShortPatterns => ClassMade::Refused(Refusal::Short(2)),
-        CutMade::ShortRows => ClassMade::Refused(Refusal::Short(1)),
+        CutMade::ShortPatterns => ClassMade::Refused(Refusal::Short(Buffer::PATTERN)),
+        CutMade::ShortRows => ClassMade::Refused(Refusal::Short(Buffer::CLASS)),
     }
 }
 
@@ -43,8 +44,8 @@ pub fn rule_made(m: RuleMade, s: usize) -> ClassMade
         RuleMade::Clash => ClassMade::Refused(Refusal::Clash(s as u64)),
         RuleMade::Circle => ClassMade::Refused(Refusal::Circle(s as u64)),
         RuleMade::Differs => ClassMade::Refused(Refusal::Instance(s as u64)),
-        RuleMade::ShortGraph => ClassMade::Refused(Refusal::Short(3)),
-        RuleMade::ShortPatterns => ClassMade::Refused(Refusal::Short(2)),
-        RuleMade::ShortRows => ClassMade::Refused(Refusal::Short(1)),
+        RuleMade::ShortGraph => ClassMade::Refused(Refusal::Short(Buffer::GRAPH)),
+        RuleMade::ShortPatterns => ClassMade::Refused(Refusal::Short(Buffer::PATTERN)),
+        RuleMade::ShortRows => ClassMade::Refused(Refusal::Short(Buffer::CLASS)),
     }
 }

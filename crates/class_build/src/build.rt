@@ -12,6 +12,7 @@ use class_all::totals::Totals;
 use class_keys::classes::Counts;
 use class_keys::classes::Keying;
 use class_premises::layout::Layout;
+use definition::Buffer;
 use definition::Figures;
 use definition::Refusal;
 use memo::memo::Memo;
@@ -116,9 +117,9 @@ pub fn build(
 {
     match make_ready(pack, work, class, words, cells, c) {
         Ready::On(k, l, r, st, memo) => {
-            let fill = c.count(work, 4);
+            let fill = c.count(work, Catalog::STEPS);
             build_from(pack, work, class, words, cells, c, k, l, r, st, memo, fill)
         }
-        Ready::Short => Answer::Refused(Refusal::Short(1)),
+        Ready::Short => Answer::Refused(Refusal::Short(Buffer::CLASS)),
     }
 }

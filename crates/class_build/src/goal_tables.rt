@@ -1,4 +1,5 @@
 // Where the goals' instance test has its tables when all classes are made.
+use base::limit::Limit;
 use class_premises::layout::Layout;
 use store::nodes::Store;
 use term_instance::tables::Instance;
@@ -19,6 +20,6 @@ pub fn instance_tables(cells: &[u32], l: Layout, st: Store) -> Instance
         pairs: pairs,
         seen: seen,
         values: values,
-        end: values + 2 * (cells.len() + 16),
+        end: values + 2 * (cells.len() + Limit::ARITY),
     }
 }

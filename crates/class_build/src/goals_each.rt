@@ -35,7 +35,7 @@ pub fn test_each(
     requires { ⌜ Testable (now pack) (now work) (now class) (now words) c k l t st seen values ⌝ }
     ensures { λ r. ⌜ TestsEach (now (pack .entry)) (now (work .entry)) (now (work .exit)) (now (class .entry)) (now (words .entry)) c k l t st r ⌝ }
 {
-    let goals = c.count(work, 5);
+    let goals = c.count(work, Catalog::GOALS);
     let mut sm = seen;
     let mut vm = values;
     let mut g: usize = 0;

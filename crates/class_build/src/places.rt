@@ -1,4 +1,5 @@
 // Where class building has its words in work, one place behind the other.
+use base::limit::Limit;
 use class_keys::classes::Keying;
 use class_premises::layout::Layout;
 use pack_tables::catalog::Catalog;
@@ -12,7 +13,7 @@ pub fn keying(c: Catalog) -> Keying
     requires { ⌜ endOf (keyingOf c) < 18446744073709551616 ⌝ }
     ensures { λ r. ⌜ r ≡ keyingOf c ⌝ }
 {
-    let marks = c.at + 9 * (5 * c.cap + 2);
+    let marks = c.at + Catalog::TABLES * (Catalog::RECORD * c.cap + Catalog::MORE);
     Keying {
         at: marks + c.cap,
         cap: c.cap,
@@ -32,7 +33,7 @@ pub fn layout(work: &[u32], words: &[u32], cells: &[u32], k: Keying, nodes: usiz
     let copied = index + (4 * room + 1);
     let walk = copied + 2 * room;
     let variables = walk + 2 * room;
-    let graph = variables + (n + 16);
+    let graph = variables + (n + Limit::ARITY);
     Layout {
         rows: rows,
         lifted: lifted,

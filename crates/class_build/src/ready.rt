@@ -30,11 +30,11 @@ pub fn make_ready(
     requires { ⌜ Opened (now pack) (now work) (now words) (now cells) c ⌝ }
     ensures { λ r. ⌜ Readies (now (pack .entry)) (now (work .entry)) (now (class .entry)) (now (words .entry)) (now (cells .entry)) (now (work .exit)) (now (class .exit)) c r ⌝ }
 {
-    if class.len() < c.count(work, 4) {
+    if class.len() < c.count(work, Catalog::STEPS) {
         return Ready::Short;
     }
     let k = keying(c);
-    let nodes = c.count(work, 3);
+    let nodes = c.count(work, Catalog::NODES);
     let l = layout(work, words, cells, k, nodes);
     let r = key_steps(pack, work, class, c, k);
     let st = begin_store(work, words, l);

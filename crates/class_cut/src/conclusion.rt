@@ -1,5 +1,6 @@
 // The conclusion of a cut class in the store: its predicate over a fresh variable for each argument.
 use base::id::Pattern;
+use base::limit::Limit;
 use pack_read::symbol::symbol_arity;
 use pack_read::symbol::symbol_input;
 use pack_tables::catalog::Catalog;
@@ -89,7 +90,7 @@ pub fn cut_conclusion(
     ensures { λ r. ⌜ Concludes (now (pack .entry)) (now (work .entry)) (now (words .entry)) (now (work .exit)) (now (words .exit)) c l st p r ⌝ }
 {
     let n = symbol_arity(pack, work, c, p as usize);
-    let mut key = [0; 17];
+    let mut key = [0; Limit::ARITY + 1];
     key[0] = p;
     match fresh_variables(pack, work, words, c, l, st, p, n, &mut key) {
         Fresh::Grown(more) => intern_key(work, words, l, more, &key[0..n + 1]),

@@ -4,6 +4,14 @@ ghost use Prim.Native.Nat.{_+_, _*_, _<_, _≤_};
 ghost use lib.ListN.{length};
 ghost use Rattle.class_keys.specs.ClassWords.{firstIn, countIn, slotsAt, joined, begun};
 
+// A class's number.
+pub struct Class(pub u32);
+
+impl Class {
+    // "2^32−1 if unneeded": the step has no class.
+    pub const NONE: u32 = 4294967295;
+}
+
 // Where the keys have their words in work: for each ground node that a step has as its judgment the first such step; behind these
 // words each class's first step; behind these how many steps it has; behind these the slots of a probe table of the classes' keys.
 // There is room for `cap` nodes and as many steps.

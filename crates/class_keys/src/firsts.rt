@@ -17,7 +17,7 @@ pub fn note_firsts(pack: &[u8], work: &mut [u32], c: Catalog, at: usize)
     ensures noted { λ _. ⌜ Noted (now (pack .entry)) (now (work .exit)) c at ⌝ }
     ensures frame { λ _. ⌜ Outside at (at + length (recordsOf (now (work .entry)) c 3)) (now (work .entry)) (now (work .exit)) ⌝ }
 {
-    let mut s = c.count(work, 4);
+    let mut s = c.count(work, Catalog::STEPS);
     while 0 < s {
         s -= 1;
         let n = step_judgment(pack, work, c, s).0 as usize;

@@ -52,7 +52,7 @@ fn mark_steps(pack: &[u8], work: &[u32], marks: &mut [u32], c: Catalog, at: usiz
     requires { ⌜ Noted (now pack) (now work) c at × (length (recordsOf (now work) c 4) ≤ length (now marks)) ⌝ }
     ensures { λ _. ⌜ OfHeld (now (pack .entry)) (now (work .entry)) c (λ P. now (marks .exit) ≡ markBelow (length (P .steps)) P (now (marks .entry))) ⌝ }
 {
-    let mut s = c.count(work, 4);
+    let mut s = c.count(work, Catalog::STEPS);
     while 0 < s {
         s -= 1;
         mark_step(pack, work, marks, c, at, s);
@@ -64,7 +64,7 @@ fn mark_results(pack: &[u8], work: &[u32], marks: &mut [u32], c: Catalog, at: us
     requires { ⌜ Noted (now pack) (now work) c at × (length (recordsOf (now work) c 4) ≤ length (now marks)) ⌝ }
     ensures { λ _. ⌜ OfHeld (now (pack .entry)) (now (work .entry)) c (λ P. now (marks .exit) ≡ markAll (now (marks .entry)) (resultSteps P)) ⌝ }
 {
-    let n = c.count(work, 6);
+    let n = c.count(work, Catalog::RESULTS);
     let mut i: usize = 0;
     while i < n {
         let s = result_step(pack, work, c, i) as usize;
@@ -80,7 +80,7 @@ pub fn mark_needed(pack: &[u8], work: &[u32], marks: &mut [u32], c: Catalog, at:
     ensures marked { λ _. ⌜ OfHeld (now (pack .entry)) (now (work .entry)) c (λ P. Marked (length (P .steps)) (now (marks .exit)) (needed P)) ⌝ }
     ensures frame { λ _. ⌜ Outside 0 (length (recordsOf (now (work .entry)) c 4)) (now (marks .entry)) (now (marks .exit)) ⌝ }
 {
-    let n = c.count(work, 4);
+    let n = c.count(work, Catalog::STEPS);
     zero_words(&mut marks[0..n]);
     mark_results(pack, work, marks, c, at);
     mark_steps(pack, work, marks, c, at);

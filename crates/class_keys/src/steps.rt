@@ -1,4 +1,5 @@
 // The class of each step, from the first step on.
+use crate::classes::Class;
 use crate::classes::Counts;
 use crate::classes::Keying;
 use crate::classes::begin_class;
@@ -34,7 +35,7 @@ fn begin(pack: &[u8], work: &mut [u32], class: &mut [u32], c: Catalog, k: Keying
     let at = k.at;
     note_firsts(pack, work, c, at);
     mark_needed(pack, work, class, c, at);
-    let n = c.count(work, 4);
+    let n = c.count(work, Catalog::STEPS);
     clear_slots(work, k, n);
     n
 }
@@ -53,7 +54,7 @@ fn key_step(
     ensures { λ r. ⌜ Turns (now (pack .entry)) (now (work .entry)) (now (class .entry)) (now (work .exit)) (now (class .exit)) c k s r ⌝ }
 {
     if class[s] == 0 {
-        class[s] = 4294967295;
+        class[s] = Class::NONE;
         return done;
     }
     let m = done.classes;

@@ -26,6 +26,23 @@ pub enum Refusal {
     Ground(u64),
 }
 
+// Document 01's buffers: "1 class, 2 pattern, 3 graph, 4 work, 5 proof or shown text, 6 goals".
+pub struct Buffer(pub u64);
+
+impl Buffer {
+    pub const CLASS: u64 = 1;
+
+    pub const PATTERN: u64 = 2;
+
+    pub const GRAPH: u64 = 3;
+
+    pub const WORK: u64 = 4;
+
+    pub const TEXT: u64 = 5;
+
+    pub const GOALS: u64 = 6;
+}
+
 // A number of document 01's table with its place; 0 and 0 for an answer.
 #[repr(C)]
 pub struct Answer {

@@ -1,5 +1,7 @@
 // The lengths lent to a call.
 use crate::answer::Outcome;
+use base::limit::Limit;
+use definition::Buffer;
 use definition::Refusal;
 ghost use mathlib.Core.Path.{_≡_};
 ghost use Rattle.definition.specs.Answer.{lengths};
@@ -17,33 +19,40 @@ pub struct Lent {
     pub goals: usize,
 }
 
+impl Lent {
+    // "work below 16 × (pattern + graph + pack) + 1,024 words".
+    pub const WORK_SHARE: usize = 16;
+
+    pub const WORK_MORE: usize = 1024;
+}
+
 // The lengths tested, ahead of the pack.
 pub fn test_lengths(l: Lent) -> Outcome
     ensures { λ r. ⌜ refusalOf r ≡ lengths (lentOf l) ⌝ }
 {
-    if 16777216 < l.pack {
+    if Limit::CELLS < l.pack {
         return Outcome::Refused(Refusal::Limit(0));
     }
-    if 16777216 < l.class {
+    if Limit::CELLS < l.class {
         return Outcome::Refused(Refusal::Limit(0));
     }
-    if 16777216 < l.pattern {
+    if Limit::CELLS < l.pattern {
         return Outcome::Refused(Refusal::Limit(0));
     }
-    if 16777216 < l.graph {
+    if Limit::CELLS < l.graph {
         return Outcome::Refused(Refusal::Limit(0));
     }
-    if 1073741824 < l.work {
+    if Limit::WORK < l.work {
         return Outcome::Refused(Refusal::Limit(0));
     }
-    if 16777216 < l.text {
+    if Limit::CELLS < l.text {
         return Outcome::Refused(Refusal::Limit(0));
     }
-    if 16777216 < l.goals {
+    if Limit::CELLS < l.goals {
         return Outcome::Refused(Refusal::Limit(0));
     }
-    if l.work < 16 * (l.pattern + l.graph + l.pack) + 1024 {
-        return Outcome::Refused(Refusal::Short(4));
+    if l.work < Lent::WORK_SHARE * (l.pattern + l.graph + l.pack) + Lent::WORK_MORE {
+        return Outcome::Refused(Refusal::Short(Buffer::WORK));
     }
     Outcome::Done
 }

@@ -21,7 +21,7 @@ pub fn chain_constructors(
     ensures { λ _. ⌜ OfHeld (now (pack .entry)) (now (work .entry)) c (λ P. Chained (now (first .exit)) (now (next .exit)) (λ h. symbolOf P h .output) 0 (length (P .symbols))) ⌝ }
 {
     zero_words(first);
-    let n: usize = c.count(work, 1);
+    let n: usize = c.count(work, Catalog::SYMBOLS);
     let mut done: usize = 0;
     while done < n {
         done += 1;

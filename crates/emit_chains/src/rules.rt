@@ -16,7 +16,7 @@ pub fn chain_rules(pack: &[u8], work: &[u32], c: Catalog, first: &mut [u32], nex
     ensures { λ _. ⌜ OfHeld (now (pack .entry)) (now (work .entry)) c (λ P. Chained (now (first .exit)) (now (next .exit)) (λ r. topOf (ruleOf P r .conclusion)) 0 (length (P .rules))) ⌝ }
 {
     zero_words(first);
-    let n: usize = c.count(work, 2);
+    let n: usize = c.count(work, Catalog::RULES);
     let mut done: usize = 0;
     while done < n {
         done += 1;

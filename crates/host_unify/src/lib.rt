@@ -1,6 +1,7 @@
 // Unifies two nodes of a list, for the host's test and benchmark of the graph.
 use base::id::Node;
 use base::id::Pattern;
+use base::limit::Limit;
 use buffer::zero::zero_words;
 use graph::graph::Graph;
 use graph::graph::Pushed;
@@ -44,7 +45,7 @@ enum Read {
 fn lengths_unfit(cells: usize, work: usize) -> bool
     ensures { λ r. ⌜ r ≡ unfit cells work ⌝ }
 {
-    if 16777216 <= cells {
+    if Limit::CELLS <= cells {
         return true;
     }
     work < 8 * cells + 7

@@ -1,5 +1,6 @@
 // A store of patterns by a list of words.
 use base::id::Pattern;
+use base::limit::Limit;
 use pack_tables::catalog::Catalog;
 use store::nodes::Interned;
 use store::nodes::Store;
@@ -51,7 +52,7 @@ fn is_pattern(key: &[u32], n: usize) -> bool
     if key[0] == Pattern::VAR {
         return key.len() == 3;
     }
-    if 17 < key.len() {
+    if Limit::ARITY + 1 < key.len() {
         return false;
     }
     let end = key.len();

@@ -13,7 +13,7 @@ pub fn lifting(work: &[u32], words: &[u32], c: Catalog) -> Lifted
     ensures { λ r. ⌜ Lays (now (work .entry)) (length (now (words .entry))) c r ⌝ }
 {
     let at = c.at + 9 * (5 * c.cap + 2) + c.cap;
-    let nodes = c.count(work, 3);
+    let nodes = c.count(work, Catalog::NODES);
     let end = at + 3 * nodes + (4 * (words.len() / 2) + 1);
     Lifted {
         at: at,

@@ -17,6 +17,9 @@ pub enum Known {
 }
 
 impl Memo {
+    // The last stamp: behind it all words are cleared.
+    pub const LAST: u32 = 4294967295;
+
     // A memo without entries, for as many keys as `table` has pairs of words.
     pub fn new(table: &mut [u32]) -> Memo
         ensures { λ r. ⌜ Remembers (now (table .exit)) r × (recall (now (table .exit)) r ≡ replicate (length (now (table .entry)) / 2) none) ⌝ }
@@ -31,7 +34,7 @@ impl Memo {
         ensures { λ r. ⌜ Remembers (now (table .exit)) r × (recall (now (table .exit)) r ≡ replicate (length (recall (now (table .entry)) self)) none) ⌝ }
     {
         let stamp = self.stamp;
-        if stamp == 4294967295 {
+        if stamp == Memo::LAST {
             return Memo::new(table);
         }
         Memo { stamp: stamp + 1 }

@@ -12,7 +12,7 @@ pub fn abstract_constructor(pack: &[u8], work: &[u32], c: Catalog, i: usize) -> 
     requires { ⌜ Readable (now pack) (now work) c × (i < length (recordsOf (now work) c 8)) ⌝ }
     ensures { λ r. ⌜ OfPack (now (pack .entry)) (now (work .entry)) c (λ P. getD (P .abstracts) i noAbstract .constructor) r ⌝ }
 {
-    body_word(pack, work, c, 8, i, 0)
+    body_word(pack, work, c, Catalog::ABSTRACTS, i, 0)
 }
 
 // Its position among the constructor's inputs.
@@ -20,5 +20,5 @@ pub fn abstract_position(pack: &[u8], work: &[u32], c: Catalog, i: usize) -> u32
     requires { ⌜ Readable (now pack) (now work) c × (i < length (recordsOf (now work) c 8)) ⌝ }
     ensures { λ r. ⌜ OfPack (now (pack .entry)) (now (work .entry)) c (λ P. getD (P .abstracts) i noAbstract .position) r ⌝ }
 {
-    body_word(pack, work, c, 8, i, 4)
+    body_word(pack, work, c, Catalog::ABSTRACTS, i, 4)
 }

@@ -2,6 +2,7 @@
 use buffer::little::u16_at;
 use buffer::little::u32_at;
 use pack_tables::catalog::Catalog;
+use pack_tables::header::Header;
 ghost use mathlib.Core.Path.{_≡_};
 ghost use Prim.Native.Nat.{_+_, _<_, _≤_};
 ghost use lib.ListN.{length};
@@ -24,7 +25,7 @@ pub fn body_half(pack: &[u8], work: &[u32], c: Catalog, kind: usize, i: usize, o
     ensures { λ r. ⌜ r ≡ le 2 (bodyOf (now (pack .entry)) (recordsOf (now (work .entry)) c kind) i) off ⌝ }
 {
     let at = c.place(pack, work, kind, i);
-    u16_at(pack, at + 6 + off)
+    u16_at(pack, at + Header::SIZE + off)
 }
 
 // The four bytes at `off` of it.
@@ -33,5 +34,5 @@ pub fn body_word(pack: &[u8], work: &[u32], c: Catalog, kind: usize, i: usize, o
     ensures { λ r. ⌜ r ≡ le 4 (bodyOf (now (pack .entry)) (recordsOf (now (work .entry)) c kind) i) off ⌝ }
 {
     let at = c.place(pack, work, kind, i);
-    u32_at(pack, at + 6 + off)
+    u32_at(pack, at + Header::SIZE + off)
 }

@@ -13,7 +13,7 @@ pub fn cut_predicate(pack: &[u8], work: &[u32], c: Catalog, j: usize) -> u32
     requires { ⌜ Readable (now pack) (now work) c × (j < length (recordsOf (now work) c 7)) ⌝ }
     ensures { λ r. ⌜ OfPack (now (pack .entry)) (now (work .entry)) c (λ P. getD (P .cuts) j noCut .predicate) r ⌝ }
 {
-    body_word(pack, work, c, 7, j, 0)
+    body_word(pack, work, c, Catalog::CUTS, j, 0)
 }
 
 // How many output positions it has.
@@ -21,7 +21,7 @@ pub fn cut_outputs(pack: &[u8], work: &[u32], c: Catalog, j: usize) -> usize
     requires { ⌜ Readable (now pack) (now work) c × (j < length (recordsOf (now work) c 7)) ⌝ }
     ensures { λ r. ⌜ OfPack (now (pack .entry)) (now (work .entry)) c (λ P. length (getD (P .cuts) j noCut .outputs)) r ⌝ }
 {
-    (body_len(pack, work, c, 7, j) - 4) / 4
+    (body_len(pack, work, c, Catalog::CUTS, j) - 4) / 4
 }
 
 // Its output position `i`.
@@ -29,5 +29,5 @@ pub fn cut_output(pack: &[u8], work: &[u32], c: Catalog, j: usize, i: usize) -> 
     requires { ⌜ ((R : Readable (now pack) (now work) c) × (j < length (recordsOf (now work) c 7)) × (i < length (getD (R .pack .cuts) j noCut .outputs))) ⌝ }
     ensures { λ r. ⌜ OfPack (now (pack .entry)) (now (work .entry)) c (λ P. getD (getD (P .cuts) j noCut .outputs) i 0) r ⌝ }
 {
-    body_word(pack, work, c, 7, j, 4 + 4 * i)
+    body_word(pack, work, c, Catalog::CUTS, j, 4 + 4 * i)
 }

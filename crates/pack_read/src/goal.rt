@@ -18,7 +18,7 @@ pub fn goal_judgment(pack: &[u8], work: &[u32], c: Catalog, i: usize) -> Ground
     requires { ⌜ Readable (now pack) (now work) c × (i < length (recordsOf (now work) c 5)) ⌝ }
     ensures { λ r. ⌜ OfPack (now (pack .entry)) (now (work .entry)) c (λ P. getD (P .goals) i noGoal .judgment) (r .0) ⌝ }
 {
-    Ground(body_word(pack, work, c, 5, i, 0))
+    Ground(body_word(pack, work, c, Catalog::GOALS, i, 0))
 }
 
 // The result that has the name of goal `g`.
@@ -27,7 +27,7 @@ pub fn goal_result(pack: &[u8], work: &[u32], c: Catalog, g: usize) -> Sought
     ensures { λ r. ⌜ ResultOf (now (pack .entry)) (now (work .entry)) c g r ⌝ }
 {
     let name = goal_name(pack, work, c, g);
-    c.find(pack, work, 6, name)
+    c.find(pack, work, Catalog::RESULTS, name)
 }
 
 // The step of result `i`.
@@ -35,7 +35,7 @@ pub fn result_step(pack: &[u8], work: &[u32], c: Catalog, i: usize) -> u32
     requires { ⌜ Readable (now pack) (now work) c × (i < length (recordsOf (now work) c 6)) ⌝ }
     ensures { λ r. ⌜ OfPack (now (pack .entry)) (now (work .entry)) c (λ P. getD (P .results) i noResult .step) r ⌝ }
 {
-    body_word(pack, work, c, 6, i, 0)
+    body_word(pack, work, c, Catalog::RESULTS, i, 0)
 }
 
 // The step of the result that has the name of goal `g`, if it has the goal's judgment.

@@ -27,7 +27,7 @@ pub fn sort_name<'a>(pack: &'a [u8], work: &[u32], c: Catalog, i: usize) -> &'a 
     requires { ⌜ Readable (now pack) (now work) c × (i < length (recordsOf (now work) c 0)) ⌝ }
     ensures { λ r. ⌜ OfPack (now (pack .entry)) (now (work .entry)) c (λ P. getD (P .sorts) i []) (now r) ⌝ }
 {
-    name_of(pack, work, c, 0, i)
+    name_of(pack, work, c, Catalog::SORTS, i)
 }
 
 // The name of symbol `i`.
@@ -35,7 +35,7 @@ pub fn symbol_name<'a>(pack: &'a [u8], work: &[u32], c: Catalog, i: usize) -> &'
     requires { ⌜ Readable (now pack) (now work) c × (i < length (recordsOf (now work) c 1)) ⌝ }
     ensures { λ r. ⌜ OfPack (now (pack .entry)) (now (work .entry)) c (λ P. symbolOf P i .name) (now r) ⌝ }
 {
-    name_of(pack, work, c, 1, i)
+    name_of(pack, work, c, Catalog::SYMBOLS, i)
 }
 
 // The name of rule `i`.
@@ -43,7 +43,7 @@ pub fn rule_name<'a>(pack: &'a [u8], work: &[u32], c: Catalog, i: usize) -> &'a 
     requires { ⌜ Readable (now pack) (now work) c × (i < length (recordsOf (now work) c 2)) ⌝ }
     ensures { λ r. ⌜ OfPack (now (pack .entry)) (now (work .entry)) c (λ P. ruleOf P i .name) (now r) ⌝ }
 {
-    name_of(pack, work, c, 2, i)
+    name_of(pack, work, c, Catalog::RULES, i)
 }
 
 // The name of goal `i`.
@@ -51,7 +51,7 @@ pub fn goal_name<'a>(pack: &'a [u8], work: &[u32], c: Catalog, i: usize) -> &'a 
     requires { ⌜ Readable (now pack) (now work) c × (i < length (recordsOf (now work) c 5)) ⌝ }
     ensures { λ r. ⌜ OfPack (now (pack .entry)) (now (work .entry)) c (λ P. getD (P .goals) i noGoal .name) (now r) ⌝ }
 {
-    name_of(pack, work, c, 5, i)
+    name_of(pack, work, c, Catalog::GOALS, i)
 }
 
 // The name of result `i`.
@@ -59,5 +59,5 @@ pub fn result_name<'a>(pack: &'a [u8], work: &[u32], c: Catalog, i: usize) -> &'
     requires { ⌜ Readable (now pack) (now work) c × (i < length (recordsOf (now work) c 6)) ⌝ }
     ensures { λ r. ⌜ OfPack (now (pack .entry)) (now (work .entry)) c (λ P. getD (P .results) i noResult .name) (now r) ⌝ }
 {
-    name_of(pack, work, c, 6, i)
+    name_of(pack, work, c, Catalog::RESULTS, i)
 }

@@ -15,7 +15,7 @@ pub fn node_head(pack: &[u8], work: &[u32], c: Catalog, n: Ground) -> u32
     requires { ⌜ Readable (now pack) (now work) c × (n .0 < length (recordsOf (now work) c 3)) ⌝ }
     ensures { λ r. ⌜ OfPack (now (pack .entry)) (now (work .entry)) c (λ P. nodeOf P (n .0) .head) r ⌝ }
 {
-    body_word(pack, work, c, 3, n.0 as usize, 0)
+    body_word(pack, work, c, Catalog::NODES, n.0 as usize, 0)
 }
 
 // How many arguments it has.
@@ -23,7 +23,7 @@ pub fn node_arity(pack: &[u8], work: &[u32], c: Catalog, n: Ground) -> usize
     requires { ⌜ Readable (now pack) (now work) c × (n .0 < length (recordsOf (now work) c 3)) ⌝ }
     ensures { λ r. ⌜ OfPack (now (pack .entry)) (now (work .entry)) c (λ P. length (nodeOf P (n .0) .args)) r ⌝ }
 {
-    (body_len(pack, work, c, 3, n.0 as usize) - 4) / 4
+    (body_len(pack, work, c, Catalog::NODES, n.0 as usize) - 4) / 4
 }
 
 // Its argument `i`, a node.
@@ -31,7 +31,7 @@ pub fn node_argument(pack: &[u8], work: &[u32], c: Catalog, n: Ground, i: usize)
     requires { ⌜ ((R : Readable (now pack) (now work) c) × (n .0 < length (recordsOf (now work) c 3)) × (i < length (nodeOf (R .pack) (n .0) .args))) ⌝ }
     ensures { λ r. ⌜ OfPack (now (pack .entry)) (now (work .entry)) c (λ P. getD (nodeOf P (n .0) .args) i 0) (r .0) ⌝ }
 {
-    Ground(body_word(pack, work, c, 3, n.0 as usize, 4 + 4 * i))
+    Ground(body_word(pack, work, c, Catalog::NODES, n.0 as usize, 4 + 4 * i))
 }
 
 // Its sort, that of its head's output.

@@ -2,6 +2,7 @@
 use crate::body::body_half;
 use crate::body::body_word;
 use crate::symbol::symbol_arity;
+use base::id::Prefix;
 use pack_tables::catalog::Catalog;
 ghost use mathlib.Core.Path.{_≡_};
 ghost use Prim.Native.Nat.{_+_, _<_};
@@ -21,7 +22,7 @@ pub fn rule_vars(pack: &[u8], work: &[u32], c: Catalog, r: usize) -> usize
     requires { ⌜ Readable (now pack) (now work) c × (r < length (recordsOf (now work) c 2)) ⌝ }
     ensures { λ n. ⌜ OfPack (now (pack .entry)) (now (work .entry)) c (λ P. length (ruleOf P r .vars)) n ⌝ }
 {
-    body_half(pack, work, c, 2, r, 0) as usize
+    body_half(pack, work, c, Catalog::RULES, r, 0) as usize
 }
 
 // How many premises it has.
@@ -29,7 +30,7 @@ pub fn rule_premises(pack: &[u8], work: &[u32], c: Catalog, r: usize) -> usize
     requires { ⌜ Readable (now pack) (now work) c × (r < length (recordsOf (now work) c 2)) ⌝ }
     ensures { λ n. ⌜ OfPack (now (pack .entry)) (now (work .entry)) c (λ P. count (ruleOf P r .premises)) n ⌝ }
 {
-    body_half(pack, work, c, 2, r, 2) as usize
+    body_half(pack, work, c, Catalog::RULES, r, 2) as usize
 }
 
 // The sort of its variable `k`.
@@ -37,7 +38,7 @@ pub fn rule_var(pack: &[u8], work: &[u32], c: Catalog, r: usize, k: usize) -> u3
     requires { ⌜ ((R : Readable (now pack) (now work) c) × (r < length (recordsOf (now work) c 2)) × (k < length (ruleOf (R .pack) r .vars))) ⌝ }
     ensures { λ s. ⌜ OfPack (now (pack .entry)) (now (work .entry)) c (λ P. getD (ruleOf P r .vars) k 0) s ⌝ }
 {
-    body_word(pack, work, c, 2, r, 4 + 4 * k)
+    body_word(pack, work, c, Catalog::RULES, r, 4 + 4 * k)
 }
 
 // Its prefix word `i`, behind so many variables.
@@ -45,7 +46,7 @@ pub fn rule_word(pack: &[u8], work: &[u32], c: Catalog, r: usize, vars: usize, i
     requires { ⌜ ((R : Readable (now pack) (now work) c) × (r < length (recordsOf (now work) c 2)) × (vars ≡ length (ruleOf (R .pack) r .vars)) × (i < length (ruleWords (ruleOf (R .pack) r)))) ⌝ }
     ensures { λ w. ⌜ WordOfRule (now (pack .entry)) (now (work .entry)) c r i w ⌝ }
 {
-    body_word(pack, work, c, 2, r, 4 + 4 * vars + 4 * i)
+    body_word(pack, work, c, Catalog::RULES, r, 4 + 4 * vars + 4 * i)
 }
 
 // How many terms follow the prefix word `w`: as many as the symbol has inputs, none behind a variable.
@@ -53,7 +54,7 @@ fn terms_behind(pack: &[u8], work: &[u32], c: Catalog, w: u32) -> usize
     requires { ⌜ ((H : Held (now pack) (now work) c) × (w < variable → w < length (H .pack .symbols))) ⌝ }
     ensures { λ n. ⌜ OfHeld (now (pack .entry)) (now (work .entry)) c (λ P. Behind P w n) ⌝ }
 {
-    if w < 2147483648 {
+    if w < Prefix::VAR {
         symbol_arity(pack, work, c, w as usize)
     } else {
         0

@@ -14,7 +14,7 @@ pub fn step_rule(pack: &[u8], work: &[u32], c: Catalog, s: usize) -> u32
     requires { ⌜ Readable (now pack) (now work) c × (s < length (recordsOf (now work) c 4)) ⌝ }
     ensures { λ r. ⌜ OfPack (now (pack .entry)) (now (work .entry)) c (λ P. stepOf P s .rule) r ⌝ }
 {
-    body_word(pack, work, c, 4, s, 0)
+    body_word(pack, work, c, Catalog::STEPS, s, 0)
 }
 
 // Its judgment, a node.
@@ -22,7 +22,7 @@ pub fn step_judgment(pack: &[u8], work: &[u32], c: Catalog, s: usize) -> Ground
     requires { ⌜ Readable (now pack) (now work) c × (s < length (recordsOf (now work) c 4)) ⌝ }
     ensures { λ r. ⌜ OfPack (now (pack .entry)) (now (work .entry)) c (λ P. stepOf P s .judgment) (r .0) ⌝ }
 {
-    Ground(body_word(pack, work, c, 4, s, 4))
+    Ground(body_word(pack, work, c, Catalog::STEPS, s, 4))
 }
 
 // How many refs it has.
@@ -30,7 +30,7 @@ pub fn step_refs(pack: &[u8], work: &[u32], c: Catalog, s: usize) -> usize
     requires { ⌜ Readable (now pack) (now work) c × (s < length (recordsOf (now work) c 4)) ⌝ }
     ensures { λ r. ⌜ OfPack (now (pack .entry)) (now (work .entry)) c (λ P. length (stepOf P s .refs)) r ⌝ }
 {
-    (body_len(pack, work, c, 4, s) - 8) / 4
+    (body_len(pack, work, c, Catalog::STEPS, s) - 8) / 4
 }
 
 // Its ref `i`, a step.
@@ -38,5 +38,5 @@ pub fn step_ref(pack: &[u8], work: &[u32], c: Catalog, s: usize, i: usize) -> u3
     requires { ⌜ ((R : Readable (now pack) (now work) c) × (s < length (recordsOf (now work) c 4)) × (i < length (stepOf (R .pack) s .refs))) ⌝ }
     ensures { λ r. ⌜ OfPack (now (pack .entry)) (now (work .entry)) c (λ P. getD (stepOf P s .refs) i 0) r ⌝ }
 {
-    body_word(pack, work, c, 4, s, 8 + 4 * i)
+    body_word(pack, work, c, Catalog::STEPS, s, 8 + 4 * i)
 }

@@ -13,7 +13,7 @@ pub fn symbol_output(pack: &[u8], work: &[u32], c: Catalog, h: usize) -> u32
     requires { ⌜ Readable (now pack) (now work) c × (h < length (recordsOf (now work) c 1)) ⌝ }
     ensures { λ r. ⌜ OfPack (now (pack .entry)) (now (work .entry)) c (λ P. symbolOf P h .output) r ⌝ }
 {
-    body_word(pack, work, c, 1, h, 0)
+    body_word(pack, work, c, Catalog::SYMBOLS, h, 0)
 }
 
 // How many inputs it has.
@@ -21,7 +21,7 @@ pub fn symbol_arity(pack: &[u8], work: &[u32], c: Catalog, h: usize) -> usize
     requires { ⌜ Readable (now pack) (now work) c × (h < length (recordsOf (now work) c 1)) ⌝ }
     ensures { λ r. ⌜ OfPack (now (pack .entry)) (now (work .entry)) c (λ P. length (symbolOf P h .inputs)) r ⌝ }
 {
-    body_half(pack, work, c, 1, h, 4) as usize
+    body_half(pack, work, c, Catalog::SYMBOLS, h, 4) as usize
 }
 
 // The sort of its input `i`.
@@ -29,5 +29,5 @@ pub fn symbol_input(pack: &[u8], work: &[u32], c: Catalog, h: usize, i: usize) -
     requires { ⌜ ((R : Readable (now pack) (now work) c) × (h < length (recordsOf (now work) c 1)) × (i < length (symbolOf (R .pack) h .inputs))) ⌝ }
     ensures { λ r. ⌜ OfPack (now (pack .entry)) (now (work .entry)) c (λ P. getD (symbolOf P h .inputs) i 0) r ⌝ }
 {
-    body_word(pack, work, c, 1, h, 6 + 4 * i)
+    body_word(pack, work, c, Catalog::SYMBOLS, h, 6 + 4 * i)
 }

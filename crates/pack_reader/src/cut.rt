@@ -5,6 +5,7 @@ use buffer::little::u32_at;
 use pack_read::symbol::symbol_arity;
 use pack_read::symbol::symbol_output;
 use pack_tables::catalog::Catalog;
+use pack_tables::header::Header;
 use pack_tables::row::all_below;
 ghost use mathlib.Core.Path.{_≡_};
 ghost use Prim.Native.Nat.{_+_, _<_, _≤_};
@@ -20,7 +21,7 @@ fn mark_place(work: &[u32], c: Catalog, h: usize) -> usize
     requires { ⌜ Fits (now work) c × (marksAt c + c .cap ≤ length (now work)) × (h < c .cap) ⌝ }
     ensures { λ r. ⌜ r ≡ marksAt c + h ⌝ }
 {
-    c.at + 9 * (5 * c.cap + 2) + h
+    c.at + Catalog::TABLES * (Catalog::RECORD * c.cap + Catalog::MORE) + h
 }
 
 // The mark of symbol `h`: 0, or the number of its cut and one.
@@ -41,7 +42,7 @@ pub fn take_cut(pack: &[u8], body: &[u8], work: &mut [u32], c: Catalog, at: usiz
         return Taken::Bad;
     }
     let predicate = u32_at(body, 0) as usize;
-    if c.count(work, 1) <= predicate {
+    if c.count(work, Catalog::SYMBOLS) <= predicate {
         return Taken::Bad;
     }
     if symbol_output(pack, work, c, predicate) != Ground::PROP {
@@ -58,8 +59,8 @@ pub fn take_cut(pack: &[u8], body: &[u8], work: &mut [u32], c: Catalog, at: usiz
     if cut_mark(pack, work, c, predicate) != 0 {
         return Taken::Bad;
     }
-    c.push(pack, work, 7, at, at + 6);
+    c.push(pack, work, Catalog::CUTS, at, at + Header::SIZE);
     let m = mark_place(work, c, predicate);
-    work[m] = c.count(work, 7) as u32;
+    work[m] = c.count(work, Catalog::CUTS) as u32;
     Taken::Good
 }

@@ -4,6 +4,7 @@ use base::id::Ground;
 use buffer::little::u32_at;
 use pack_read::node::node_sort;
 use pack_tables::catalog::Catalog;
+use pack_tables::header::Header;
 use pack_tables::name::is_name;
 use pack_tables::region::Entered;
 ghost use Rattle.definition.specs.Certificate.{takeGoal};
@@ -19,7 +20,7 @@ pub fn take_goal(pack: &[u8], body: &[u8], work: &mut [u32], c: Catalog, at: usi
         return Taken::Bad;
     }
     let node = Ground(u32_at(body, 0));
-    if c.count(work, 3) <= node.0 as usize {
+    if c.count(work, Catalog::NODES) <= node.0 as usize {
         return Taken::Bad;
     }
     if node_sort(pack, work, c, node) != Ground::PROP {
@@ -28,7 +29,7 @@ pub fn take_goal(pack: &[u8], body: &[u8], work: &mut [u32], c: Catalog, at: usi
     if !is_name(&body[4..]) {
         return Taken::Bad;
     }
-    match c.enter(pack, work, 5, at, at + 6 + 4) {
+    match c.enter(pack, work, Catalog::GOALS, at, at + Header::SIZE + 4) {
         Entered::New => Taken::Good,
         Entered::Old => Taken::Bad,
     }

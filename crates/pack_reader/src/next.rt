@@ -11,6 +11,7 @@ use crate::symbol::take_symbol;
 use crate::taken::Taken;
 use pack_tables::catalog::Catalog;
 use pack_tables::header::Header;
+use pack_tables::header::Kind;
 ghost use Rattle.definition.specs.Parse.{takeRecord};
 ghost use Rattle.pack_reader.specs.Taking.{Reading, Whole, behind};
 ghost use Rattle.pack_reader.specs.Sound.{Sound};
@@ -36,28 +37,28 @@ fn take_record(
     requires { ⌜ Reading (now pack) (now work) c at × Whole (now pack) (now body) at × Sound (now pack) (now work) c × Marks (now pack) (now work) c ⌝ }
     ensures { λ r. ⌜ Advances (now (pack .entry)) (now (work .entry)) (now (work .exit)) c (behind at (now (body .entry))) (λ P. takeRecord P (record { kind = kind; body = now (body .entry) })) r ⌝ }
 {
-    if kind == 1 {
+    if kind == Kind::SORT {
         return take_sort(pack, body, work, c, at);
     }
-    if kind == 2 {
+    if kind == Kind::SYMBOL {
         return take_symbol(pack, body, work, c, at);
     }
-    if kind == 3 {
+    if kind == Kind::RULE {
         return take_rule(pack, body, work, c, at);
     }
-    if kind == 4 {
+    if kind == Kind::NODE {
         return take_node(pack, body, work, c, at);
     }
-    if kind == 5 {
+    if kind == Kind::STEP {
         return take_step(pack, body, work, c, at);
     }
-    if kind == 6 {
+    if kind == Kind::GOAL {
         return take_goal(pack, body, work, c, at);
     }
-    if kind == 7 {
+    if kind == Kind::RESULT {
         return take_result(pack, body, work, c, at);
     }
-    if kind == 8 {
+    if kind == Kind::CUT {
         return take_cut(pack, body, work, c, at);
     }
     take_abstract(pack, body, work, c, at)
@@ -70,7 +71,7 @@ pub fn take_next(pack: &[u8], work: &mut [u32], c: Catalog, at: usize, header: H
 {
     match header {
         Header::Whole(kind, end) => {
-            let body = &pack[at + 6..at + end];
+            let body = &pack[at + Header::SIZE..at + end];
             match take_record(pack, body, work, c, at, kind) {
                 Taken::Good => Next::At(end, kind),
                 Taken::Bad => Next::Bad,

@@ -6,6 +6,7 @@ use pack_read::node::node_sort;
 use pack_read::symbol::symbol_arity;
 use pack_read::symbol::symbol_input;
 use pack_tables::catalog::Catalog;
+use pack_tables::header::Header;
 use pack_tables::region::Entered;
 use pack_tables::row::word;
 ghost use Rattle.definition.specs.Certificate.{takeNode};
@@ -25,7 +26,7 @@ fn arguments_fit(
     requires { ⌜ Asks (now pack) (now work) (now body) c head arity ⌝ }
     ensures { λ r. ⌜ Fit (now (pack .entry)) (now (work .entry)) (now (body .entry)) c head arity r ⌝ }
 {
-    let nodes = c.count(work, 3);
+    let nodes = c.count(work, Catalog::NODES);
     let mut i = 0;
     while i < arity {
         let n = Ground(word(body, 4, i));
@@ -49,7 +50,7 @@ pub fn take_node(pack: &[u8], body: &[u8], work: &mut [u32], c: Catalog, at: usi
         return Taken::Bad;
     }
     let head = u32_at(body, 0) as usize;
-    if c.count(work, 1) <= head {
+    if c.count(work, Catalog::SYMBOLS) <= head {
         return Taken::Bad;
     }
     let arity = symbol_arity(pack, work, c, head);
@@ -59,7 +60,7 @@ pub fn take_node(pack: &[u8], body: &[u8], work: &mut [u32], c: Catalog, at: usi
     if !arguments_fit(pack, body, work, c, head, arity) {
         return Taken::Bad;
     }
-    match c.enter(pack, work, 3, at, at + 6) {
+    match c.enter(pack, work, Catalog::NODES, at, at + Header::SIZE) {
         Entered::New => Taken::Good,
         Entered::Old => Taken::Bad,
     }

@@ -33,7 +33,7 @@ fn open_tables(pack: &[u8], work: &mut [u32]) -> Catalog
     ensures { λ r. ⌜ (r ≡ tablesOf (length (now (pack .entry)))) × Walking (now (pack .entry)) (now (work .exit)) (tablesOf (length (now (pack .entry)))) 0 0 × Beyond (now (work .entry)) (now (work .exit)) (tablesOf (length (now (pack .entry)))) ⌝ }
 {
     let cap = pack.len() / 7 + 1;
-    let marks = 9 * (5 * cap + 2);
+    let marks = Catalog::TABLES * (Catalog::RECORD * cap + Catalog::MORE);
     zero_words(&mut work[marks..marks + cap]);
     Catalog::new(work, 0, cap)
 }

@@ -2,6 +2,7 @@
 use crate::taken::Taken;
 use buffer::little::u32_at;
 use pack_tables::catalog::Catalog;
+use pack_tables::header::Header;
 use pack_tables::name::is_name;
 use pack_tables::region::Entered;
 ghost use Rattle.definition.specs.Certificate.{takeResult};
@@ -16,13 +17,13 @@ pub fn take_result(pack: &[u8], body: &[u8], work: &mut [u32], c: Catalog, at: u
         return Taken::Bad;
     }
     let step = u32_at(body, 0) as usize;
-    if c.count(work, 4) <= step {
+    if c.count(work, Catalog::STEPS) <= step {
         return Taken::Bad;
     }
     if !is_name(&body[4..]) {
         return Taken::Bad;
     }
-    match c.enter(pack, work, 6, at, at + 6 + 4) {
+    match c.enter(pack, work, Catalog::RESULTS, at, at + Header::SIZE + 4) {
         Entered::New => Taken::Good,
         Entered::Old => Taken::Bad,
     }

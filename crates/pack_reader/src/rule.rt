@@ -2,8 +2,10 @@
 use crate::taken::Taken;
 use crate::terms::Terms;
 use crate::terms::read_terms;
+use base::limit::Limit;
 use buffer::little::u16_at;
 use pack_tables::catalog::Catalog;
+use pack_tables::header::Header;
 use pack_tables::name::is_name;
 use pack_tables::region::Entered;
 use pack_tables::row::all_below;
@@ -36,11 +38,11 @@ fn rule_counts(body: &[u8], sorts: usize) -> Count
         return Count::Wrong;
     }
     let vars = u16_at(body, 0) as usize;
-    if 64 < vars {
+    if Limit::VARIABLES < vars {
         return Count::Wide;
     }
     let premises = u16_at(body, 2) as usize;
-    if 16 < premises {
+    if Limit::PREMISES < premises {
         return Count::Wide;
     }
     if body.len() < 4 + 4 * vars {
@@ -57,7 +59,7 @@ fn rule_form(pack: &[u8], body: &[u8], work: &[u32], c: Catalog) -> Form
     requires { ⌜ Readable (now pack) (now work) c ⌝ }
     ensures { λ r. ⌜ Forms (now (pack .entry)) (recordsOf (now (work .entry)) c) (now (body .entry)) r ⌝ }
 {
-    let sorts = c.count(work, 0);
+    let sorts = c.count(work, Catalog::SORTS);
     match rule_counts(body, sorts) {
         Count::Terms(vars, premises) => match read_terms(pack, work, c, body, vars, premises) {
             Terms::End(e) => {
@@ -79,11 +81,11 @@ pub fn take_rule(pack: &[u8], body: &[u8], work: &mut [u32], c: Catalog, at: usi
     requires { ⌜ Reading (now pack) (now work) c at × Whole (now pack) (now body) at × Sound (now pack) (now work) c ⌝ }
     ensures { λ r. ⌜ Takes (now (pack .entry)) (now (work .entry)) (now (work .exit)) c 2 (behind at (now (body .entry))) (λ P. takeRule P (now (body .entry))) r ⌝ }
 {
-    if 4096 <= c.count(work, 2) {
+    if Limit::RULES <= c.count(work, Catalog::RULES) {
         return Taken::Over;
     }
     match rule_form(pack, body, work, c) {
-        Form::Name(n) => match c.enter(pack, work, 2, at, at + 6 + n) {
+        Form::Name(n) => match c.enter(pack, work, Catalog::RULES, at, at + Header::SIZE + n) {
             Entered::New => Taken::Good,
             Entered::Old => Taken::Bad,
         },

@@ -5,6 +5,7 @@ use buffer::little::u32_at;
 use pack_read::body::body_half;
 use pack_read::node::node_sort;
 use pack_tables::catalog::Catalog;
+use pack_tables::header::Header;
 use pack_tables::row::all_below;
 ghost use Rattle.definition.specs.Certificate.{takeStep};
 ghost use Rattle.pack_reader.specs.Taking.{Reading, Whole, behind, Takes};
@@ -19,24 +20,24 @@ pub fn take_step(pack: &[u8], body: &[u8], work: &mut [u32], c: Catalog, at: usi
         return Taken::Bad;
     }
     let rule = u32_at(body, 0) as usize;
-    if c.count(work, 2) <= rule {
+    if c.count(work, Catalog::RULES) <= rule {
         return Taken::Bad;
     }
     let judgment = Ground(u32_at(body, 4));
-    if c.count(work, 3) <= judgment.0 as usize {
+    if c.count(work, Catalog::NODES) <= judgment.0 as usize {
         return Taken::Bad;
     }
     if node_sort(pack, work, c, judgment) != Ground::PROP {
         return Taken::Bad;
     }
-    let premises = body_half(pack, work, c, 2, rule, 2) as usize;
+    let premises = body_half(pack, work, c, Catalog::RULES, rule, 2) as usize;
     if body.len() != 8 + 4 * premises {
         return Taken::Bad;
     }
-    let steps = c.count(work, 4);
+    let steps = c.count(work, Catalog::STEPS);
     if !all_below(body, 8, premises, steps) {
         return Taken::Bad;
     }
-    c.push(pack, work, 4, at, at + 6);
+    c.push(pack, work, Catalog::STEPS, at, at + Header::SIZE);
     Taken::Good
 }

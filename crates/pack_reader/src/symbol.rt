@@ -1,9 +1,11 @@
 // Symbols.
 use crate::taken::Taken;
 use base::id::Ground;
+use base::limit::Limit;
 use buffer::little::u16_at;
 use buffer::little::u32_at;
 use pack_tables::catalog::Catalog;
+use pack_tables::header::Header;
 use pack_tables::name::is_name;
 use pack_tables::region::Entered;
 use pack_tables::row::all_below;
@@ -36,7 +38,7 @@ fn symbol_shape(body: &[u8], sorts: usize) -> Shape
         return Shape::Wrong;
     }
     let arity = u16_at(body, 4) as usize;
-    if 16 < arity {
+    if Limit::ARITY < arity {
         return Shape::Wide;
     }
     let name = 6 + 4 * arity;
@@ -61,12 +63,12 @@ pub fn take_symbol(pack: &[u8], body: &[u8], work: &mut [u32], c: Catalog, at: u
     requires { ⌜ Reading (now pack) (now work) c at × Whole (now pack) (now body) at ⌝ }
     ensures { λ r. ⌜ Takes (now (pack .entry)) (now (work .entry)) (now (work .exit)) c 1 (behind at (now (body .entry))) (λ P. takeSymbol P (now (body .entry))) r ⌝ }
 {
-    if 4096 <= c.count(work, 1) {
+    if Limit::SYMBOLS <= c.count(work, Catalog::SYMBOLS) {
         return Taken::Over;
     }
-    let sorts = c.count(work, 0);
+    let sorts = c.count(work, Catalog::SORTS);
     match symbol_shape(body, sorts) {
-        Shape::Name(n) => match c.enter(pack, work, 1, at, at + 6 + n) {
+        Shape::Name(n) => match c.enter(pack, work, Catalog::SYMBOLS, at, at + Header::SIZE + n) {
             Entered::New => Taken::Good,
             Entered::Old => Taken::Bad,
         },

@@ -1,5 +1,7 @@
 // A rule's terms in prefix order, read with a stack of frames: a symbol whose arguments are still to come, and the next of them.
 use base::id::Ground;
+use base::id::Prefix;
+use base::limit::Limit;
 use buffer::little::u32_at;
 use pack_read::symbol::symbol_arity;
 use pack_read::symbol::symbol_input;
@@ -89,15 +91,15 @@ fn fits_at(pack: &[u8], work: &[u32], c: Catalog, body: &[u8], vars: usize, s: u
     requires { ⌜ Readable (now pack) (now work) c × (4 + 4 * vars ≤ length (now body)) ⌝ }
     ensures { λ r. ⌜ Fitting (now (pack .entry)) (recordsOf (now (work .entry)) c) (now (body .entry)) vars s w r ⌝ }
 {
-    if 2147483648 <= w {
-        let v = (w - 2147483648) as usize;
+    if Prefix::VAR <= w {
+        let v = (w - Prefix::VAR) as usize;
         if vars <= v {
             return false;
         }
         return word(body, 4, v) == s;
     }
     let h = w as usize;
-    if c.count(work, 1) <= h {
+    if c.count(work, Catalog::SYMBOLS) <= h {
         return false;
     }
     symbol_output(pack, work, c, h) == s
@@ -108,7 +110,7 @@ fn descend(pack: &[u8], work: &[u32], c: Catalog, frames: &mut [u32], p: Point, 
     requires { ⌜ Readable (now pack) (now work) c × Stacked (now pack) (recordsOf (now work) c) (now frames) (p .frames) × (p .frames < 256) × (w < 2147483648 → w < length (recordsOf (now work) c 1)) ⌝ }
     ensures { λ q. ⌜ Descended (now (pack .entry)) (recordsOf (now (work .entry)) c) (now (frames .entry)) (now (frames .exit)) p w q ⌝ }
 {
-    if 2147483648 <= w {
+    if Prefix::VAR <= w {
         return p;
     }
     let h = w as usize;
@@ -147,7 +149,7 @@ fn read_word(
                 return Turn::Bad;
             }
             let read = q.read;
-            if 256 <= read {
+            if Limit::WORDS <= read {
                 return Turn::Over;
             }
             let w = u32_at(body, at);
@@ -183,7 +185,7 @@ pub fn read_terms(
     requires { ⌜ Readable (now pack) (now work) c × (4 + 4 * vars ≤ length (now body)) × (premises ≤ 16) ⌝ }
     ensures { λ r. ⌜ TermsRead (now (pack .entry)) (recordsOf (now (work .entry)) c) (now (body .entry)) vars premises r ⌝ }
 {
-    let mut frames = [0u32; 512];
+    let mut frames = [0u32; 2 * Limit::WORDS];
     let mut p = Point {
         at: 4 + 4 * vars,
         read: 0,

@@ -1,5 +1,4 @@
-// The regions of all kinds, one behind the other in work. Kinds are counted from 0 here: sorts, symbols, rules, nodes, steps, goals,
-// results, cuts, and the abstract record.
+// The regions of all kinds, one behind the other in work, by the numbers of their tables.
 use crate::region::Entered;
 use crate::region::Sought;
 ghost use mathlib.Core.Path.{_≡_};
@@ -19,27 +18,54 @@ pub struct Catalog {
 fn has_keys(kind: usize) -> bool
     ensures { λ r. ⌜ r ≡ keyedKind kind ⌝ }
 {
-    if kind == 4 {
+    if kind == Catalog::STEPS {
         return false;
     }
-    if kind == 7 {
+    if kind == Catalog::CUTS {
         return false;
     }
-    kind != 8
+    kind != Catalog::ABSTRACTS
 }
 
 impl Catalog {
+    // The tables in the order of document 01's kinds, from 0 on.
+    pub const SORTS: usize = 0;
+
+    pub const SYMBOLS: usize = 1;
+
+    pub const RULES: usize = 2;
+
+    pub const NODES: usize = 3;
+
+    pub const STEPS: usize = 4;
+
+    pub const GOALS: usize = 5;
+
+    pub const RESULTS: usize = 6;
+
+    pub const CUTS: usize = 7;
+
+    pub const ABSTRACTS: usize = 8;
+
+    pub const TABLES: usize = 9;
+    // Sorts, symbols and rules have a limit; a table of them has room for one more than the greatest.
+    pub const LIMITED: usize = 4097;
+    // A table has so many words for each record that it has room for, and so many more.
+    pub const RECORD: usize = 5;
+
+    pub const MORE: usize = 2;
+
     // For how many records of a kind there is room.
     fn cap_of(self, kind: usize) -> usize
         ensures { λ r. ⌜ r ≡ capOf self kind ⌝ }
     {
-        if 3 <= kind {
+        if Catalog::NODES <= kind {
             return self.cap;
         }
-        if self.cap <= 4097 {
+        if self.cap <= Catalog::LIMITED {
             return self.cap;
         }
-        4097
+        Catalog::LIMITED
     }
 
     // Where the region of a kind starts.
@@ -47,7 +73,7 @@ impl Catalog {
         requires { ⌜ Fits (now work) self × (kind < 9) ⌝ }
         ensures { λ r. ⌜ r ≡ startOf self kind ⌝ }
     {
-        self.at + kind * (5 * self.cap + 2)
+        self.at + kind * (Catalog::RECORD * self.cap + Catalog::MORE)
     }
 
     // How many records of a kind there are.
@@ -84,7 +110,12 @@ impl Catalog {
     {
         let a = self.start(work, kind);
         let cap = self.cap_of(kind);
-        crate::region::find(pack, &work[a..a + (5 * cap + 2)], cap, key)
+        crate::region::find(
+            pack,
+            &work[a..a + (Catalog::RECORD * cap + Catalog::MORE)],
+            cap,
+            key,
+        )
     }
 
     // A record more of a kind with keys, unless one has its key.
@@ -101,7 +132,13 @@ impl Catalog {
     {
         let a = self.start(work, kind);
         let cap = self.cap_of(kind);
-        crate::region::enter(pack, &mut work[a..a + (5 * cap + 2)], cap, at, from)
+        crate::region::enter(
+            pack,
+            &mut work[a..a + (Catalog::RECORD * cap + Catalog::MORE)],
+            cap,
+            at,
+            from,
+        )
     }
 
     // A record more of a kind without keys.
@@ -111,7 +148,13 @@ impl Catalog {
     {
         let a = self.start(work, kind);
         let cap = self.cap_of(kind);
-        crate::region::push(pack, &mut work[a..a + (5 * cap + 2)], cap, at, from);
+        crate::region::push(
+            pack,
+            &mut work[a..a + (Catalog::RECORD * cap + Catalog::MORE)],
+            cap,
+            at,
+            from,
+        );
     }
 
     // No records, with room for `cap` of each kind.
@@ -121,11 +164,15 @@ impl Catalog {
     {
         let c = Catalog { at: at, cap: cap };
         let mut k: usize = 0;
-        while k < 9 {
+        while k < Catalog::TABLES {
             let a = c.start(work, k);
             let n = c.cap_of(k);
             let keys = has_keys(k);
-            crate::region::clear(&mut work[a..a + (5 * n + 2)], n, keys);
+            crate::region::clear(
+                &mut work[a..a + (Catalog::RECORD * n + Catalog::MORE)],
+                n,
+                keys,
+            );
             k += 1;
         }
         c

@@ -1,4 +1,5 @@
 // Names of sorts, symbols and rules.
+use base::limit::Limit;
 ghost use mathlib.Core.Path.{_≡_};
 ghost use Rattle.definition.specs.Theory.{nameByte, isName};
 
@@ -25,7 +26,7 @@ pub fn is_name(name: &[u8]) -> bool
     if name.len() < 1 {
         return false;
     }
-    if 64 < name.len() {
+    if Limit::NAME < name.len() {
         return false;
     }
     if name[0] == b'?' {

@@ -1,5 +1,6 @@
 // One kind's records in a region of work: how many, where each stands in the pack, and a probe table of their keys, which are
 // compared in the pack's own bytes.
+use crate::header::Header;
 use base::hash::hash_bytes;
 use base::same::same_bytes;
 use buffer::little::u32_at;
@@ -37,7 +38,7 @@ pub fn end_of(pack: &[u8], at: usize) -> usize
     ensures { λ r. ⌜ r ≡ endOf (now (pack .entry)) at ⌝ }
 {
     let n = u32_at(pack, at) as usize;
-    at + 6 + n
+    at + Header::SIZE + n
 }
 
 // The key of record `i`.

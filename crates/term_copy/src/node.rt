@@ -1,6 +1,7 @@
 // The copy of one pattern node: a variable with its mark, an application over the copies of its arguments.
 use base::id::Node;
 use base::id::Pattern;
+use base::limit::Limit;
 use graph::graph::Graph;
 use graph::graph::Pushed;
 use memo::memo::Known;
@@ -112,7 +113,7 @@ fn copy_application(
     requires { ⌜ (l .copied ≤ l .walk) × (l .walk ≤ l .graph) × (l .graph + (5 * length (now cells) + 5) ≤ length (now work)) × Holds (now cells) (rowsIn (now work) (now cells) l) g × Arguments (now work) l memo (now key) ⌝ }
     ensures { λ r. ⌜ Grows (now (work .entry)) (now (work .exit)) (now (cells .entry)) (now (cells .exit)) l g (applied (getD (now (key .entry)) 0 0) (map (copyIn (now (work .entry)) l memo) (drop 1 (now (key .entry))))) r ⌝ }
 {
-    let mut args = [0; 16];
+    let mut args = [0; Limit::ARITY];
     gather(work, l, memo, key, &mut args);
     let n = key.len() - 1;
     let from = l.graph;

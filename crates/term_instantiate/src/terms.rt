@@ -1,6 +1,8 @@
 // A rule's term in the graph, from its prefix words, the last one first: the nodes of the terms behind a word stand on a stack that
 // grows towards its front, so that a symbol's arguments stand there in their order.
 use base::id::Node;
+use base::id::Prefix;
+use base::limit::Limit;
 use graph::graph::Graph;
 use graph::graph::Pushed;
 use pack_read::rule::rule_word;
@@ -39,8 +41,8 @@ fn take_word(
     ensures { λ r. ⌜ Takes (now (pack .entry)) (now (work .entry)) (now (work .exit)) (now (cells .entry)) (now (cells .exit)) c l g (now (env .entry)) (now (stack .entry)) (now (stack .exit)) top i r ⌝ }
 {
     let w = rule_word(pack, work, c, l.rule, l.vars, i);
-    if 2147483648 <= w {
-        let k = (w - 2147483648) as usize;
+    if Prefix::VAR <= w {
+        let k = (w - Prefix::VAR) as usize;
         stack[top - 1] = env[k];
         return Taken::On(top - 1, g);
     }
@@ -72,8 +74,8 @@ pub fn instantiate(
     requires { ⌜ Asked (now pack) (now work) (now cells) c l g (now env) from to ⌝ }
     ensures { λ r. ⌜ Instantiates (now (pack .entry)) (now (work .entry)) (now (work .exit)) (now (cells .entry)) (now (cells .exit)) c l g (now (env .entry)) from to r ⌝ }
 {
-    let mut stack = [0; 256];
-    let mut top: usize = 256;
+    let mut stack = [0; Limit::WORDS];
+    let mut top: usize = Limit::WORDS;
     let mut i = to;
     let mut h = g;
     while from < i {

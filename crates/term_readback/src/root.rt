@@ -9,6 +9,7 @@ use crate::table::word_at;
 use base::id::Ground;
 use base::id::Node;
 use base::id::Pattern;
+use base::limit::Limit;
 use graph::graph::Graph;
 use pack_tables::catalog::Catalog;
 use store::nodes::Interned;
@@ -116,7 +117,7 @@ fn read_applied(
     requires { ⌜ Applying (now work) (now words) (now cells) l t st g numbered (x .0) ⌝ }
     ensures { λ r. ⌜ Applies (now (work .entry)) (now (words .entry)) (now (work .exit)) (now (words .exit)) (now (cells .entry)) l t st g numbered (x .0) r ⌝ }
 {
-    let mut key = [0; 17];
+    let mut key = [0; Limit::ARITY + 1];
     let k = key_of(work, cells, t, g, x, &mut key);
     match intern_key(work, words, l, st, &key[0..k]) {
         Interned::Id(p, more) => Resolved::Read(p, more, numbered),
