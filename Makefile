@@ -1,4 +1,4 @@
-# make demo: build what exists and run it on the shipped example.
+# make demo: prove and build what exists and run it on the shipped example.
 # make test: the gate.
 # make vectors: record the vectors anew from the Rust original's source, HORN=FOLDER.
 # make bench: time the library beside the Rust original, HORN=FOLDER, and its reader and
@@ -9,7 +9,7 @@ HORN ?= ../shared/docs/src
 CARGO = CARGO_TARGET_DIR=$(CURDIR)/target/tools cargo
 TOOLS = target/tools/release
 
-.PHONY: demo test tools oracle vectors bench dock host
+.PHONY: demo test tools oracle vectors bench proved dock host
 
 test:
 	.ci/run
@@ -23,8 +23,10 @@ oracle: tools
 vectors: oracle
 	$(TOOLS)/oracle vectors tests/vectors examples/nat.horn tests/cases/*.horn
 
-dock:
-	@mkdir -p target
+proved:
+	@tools/prove dock list_records
+
+dock: proved
 	@rt staticlib dock > target/dock.log 2>&1 || { cat target/dock.log; exit 1; }
 
 host: dock
@@ -34,6 +36,7 @@ host: dock
 	done
 
 bench: tools dock
+	@tools/prove host_store host_unify host_read host_walk
 	@for crate in host_store host_unify host_read host_walk; do \
 	    rt staticlib $$crate > target/$$crate.log 2>&1 || { cat target/$$crate.log; exit 1; }; \
 	done
@@ -47,7 +50,6 @@ bench: tools dock
 	@$(TOOLS)/bench check
 
 demo: tools host
-	@rt check list_records > target/demo.log 2>&1 || { cat target/demo.log; exit 1; }
 	@echo "The worked example (examples/nat.horn) as a pack, by certpack dump:"
 	@$(TOOLS)/certpack dump examples/nat.pack
 	@echo

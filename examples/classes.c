@@ -16,8 +16,8 @@
 
 const char program[] = "classes";
 
-/* The buffers, by document 01's numbers. */
-enum { CLASS = 1, PATTERN, GRAPH, WORK };
+/* The buffers by their numbers. */
+enum { CLASS = CERT_CLASSES, PATTERN = CERT_PATTERN, GRAPH = CERT_GRAPH, WORK = CERT_WORK };
 
 struct lent {
     uint32_t *cells[WORK + 1];
@@ -35,7 +35,7 @@ static void give_back(struct lent *lent)
 static bool lend(struct lent *lent, size_t pack_len)
 {
     bool all = true;
-    lent->length[WORK] = 16 * (lent->length[PATTERN] + lent->length[GRAPH] + pack_len) + 1024;
+    lent->length[WORK] = cert_least_work(lent->length[PATTERN], lent->length[GRAPH], pack_len);
     for (int i = CLASS; i <= WORK; i++) {
         lent->cells[i] = malloc(lent->length[i] * sizeof *lent->cells[i]);
         all = all && lent->cells[i];
@@ -46,10 +46,10 @@ static bool lend(struct lent *lent, size_t pack_len)
 /* A short buffer is to be twice as long; false if it can't be longer. */
 static bool lengthen(struct lent *lent, uint64_t buffer)
 {
-    if (buffer < CLASS || buffer > GRAPH || lent->length[buffer] >= MOST)
+    if (buffer < CLASS || buffer > GRAPH || lent->length[buffer] >= CERT_MOST_CELLS)
         return false;
     size_t twice = 2 * lent->length[buffer];
-    lent->length[buffer] = twice < MOST ? twice : MOST;
+    lent->length[buffer] = twice < CERT_MOST_CELLS ? twice : CERT_MOST_CELLS;
     return true;
 }
 
@@ -59,7 +59,7 @@ static bool build(const uint8_t *pack, size_t length, struct lent *lent,
 {
     /* A pack that is too long is refused by its length, whatever the buffers. A step's
      * record has 14 bytes at least. */
-    size_t pack_len = length > MOST ? 0 : length;
+    size_t pack_len = length > CERT_MOST_CELLS ? 0 : length;
     *lent = (struct lent){
         .length = {[CLASS] = pack_len / 14 + 64, [PATTERN] = 1024, [GRAPH] = 1024},
     };
@@ -70,7 +70,7 @@ static bool build(const uint8_t *pack, size_t length, struct lent *lent,
         *answer = cert_classes(pack, length, lent->cells[CLASS], lent->length[CLASS],
                                lent->cells[PATTERN], lent->length[PATTERN], lent->cells[GRAPH],
                                lent->length[GRAPH], lent->cells[WORK], lent->length[WORK]);
-    } while (answer->code == 8 && lengthen(lent, answer->place));
+    } while (answer->code == CERT_SHORT && lengthen(lent, answer->place));
     return true;
 }
 
@@ -154,7 +154,6 @@ static void print_rule(const struct view *view, const uint8_t *rule)
 
 /* As many nodes of a conclusion are shown. */
 enum { BUDGET = 60 };
-#define VARIABLE (UINT32_MAX - 1)
 
 /* A conclusion being shown: what is left of the budget, whether all was shown so far, and
  * the variables' words, one for each place. */
@@ -176,7 +175,7 @@ static void show(const struct view *view, struct shown *shown, uint32_t node, bo
     shown->left--;
     const uint32_t *words = view->pattern_words + view->node[node];
     uint32_t count = words[0], head = words[1];
-    if (head == VARIABLE) {
+    if (head == CERT_VARIABLE) {
         printf("?v%" PRIu32, words[2]);
         shown->variable[shown->places++] = words;
         return;
@@ -307,7 +306,7 @@ int run(const char *path, const uint8_t *pack, size_t length)
     int status = ACCEPTED;
     if (!build(pack, length, &lent, &answer))
         status = fault(path, "out of memory");
-    else if (answer.code != 0)
+    else if (answer.code != CERT_DONE)
         status = refused(path, length, answer.code, answer.place);
     else
         print_all(path, pack, length, &lent, &answer.figures);

@@ -12,9 +12,6 @@
 #include <stddef.h>
 #include <stdint.h>
 
-/* The longest pack, in bytes, and the longest buffer but work, in cells. */
-#define MOST ((size_t)1 << 24)
-
 enum { ACCEPTED, REFUSED, FAULT };
 
 /* Each host's own: its name, and what it does with a pack; the exit status is answered. */

@@ -23,6 +23,39 @@
 extern "C" {
 #endif
 
+/* The numbers of answers. */
+enum {
+    CERT_DONE,     /* 0: done */
+    CERT_FORM,     /* 1: a record cut, misordered or against its form; its offset */
+    CERT_LIMIT,    /* 2: over a limit; the record's offset, or 0 for a lent length */
+    CERT_STEP,     /* 3: a step that fails; the step */
+    CERT_GOAL,     /* 4: a goal without result, or one with another judgment; the goal */
+    CERT_CLASH,    /* 5: a clash as a step's class is made; the step */
+    CERT_CIRCLE,   /* 6: a circle; the step */
+    CERT_INSTANCE, /* 7: judgments that are no instance; the step */
+    CERT_SHORT     /* 8: a short buffer; the buffer's number */
+};
+
+/* The numbers of buffers, as CERT_SHORT gives them for its place. */
+enum { CERT_CLASSES = 1, CERT_PATTERN, CERT_GRAPH, CERT_WORK };
+
+/* The most bytes of a pack or cells of a buffer, and the most words of work. */
+#define CERT_MOST_CELLS ((size_t)1 << 24)
+#define CERT_MOST_WORK ((size_t)1 << 30)
+
+/* In class words: the step isn't needed, so it has no class. */
+#define CERT_NO_CLASS UINT32_C(0xFFFFFFFF)
+
+/* In pattern words, for a head: the node is a variable. */
+#define CERT_VARIABLE UINT32_C(0xFFFFFFFE)
+
+/* The least work that a call asks for with these lengths, none above its limit; 0 for a
+ * buffer that the call isn't lent. */
+static inline size_t cert_least_work(size_t pattern_len, size_t graph_len, size_t pack_len)
+{
+    return 16 * (pattern_len + graph_len + pack_len) + 1024;
+}
+
 /* The number of an answer, and its place. 0 at 0: done. */
 struct cert_answer {
     uint64_t code, place;
@@ -37,8 +70,8 @@ struct cert_answer {
  *
  * Lent:
  *   pack  pack_len bytes, at most 2^24; none is the empty pack, which passes
- *   work  work_len words, at least 16 * pack_len + 1024 and at most 2^30; all of them are
- *         zero behind the call, whatever it answers
+ *   work  work_len words, at least cert_least_work(0, 0, pack_len) and at most 2^30; all
+ *         of them are zero behind the call, whatever it answers
  *
  * Code and place:
  *   0  0       every step passes and every goal has its result
@@ -85,14 +118,15 @@ struct cert_classes_answer {
  *   classes  classes_len words, at most 2^24: class words
  *   pattern  pattern_len words, at most 2^24: pattern words
  *   graph    graph_len cells, at most 2^24; zero behind the call
- *   work     work_len words, at least 16 * (pattern_len + graph_len + pack_len) + 1024 and
+ *   work     work_len words, at least cert_least_work(pattern_len, graph_len, pack_len) and
  *            at most 2^30; zero behind the call
  *
- * Class words: each step's class, from 0 in the order of their first steps, or 2^32 - 1
- * where the step isn't needed; then for each class its conclusion's pattern node, how many
- * steps it has, how many variables, and for each variable whether it is flexible, 1 or 0.
+ * Class words: each step's class, from 0 in the order of their first steps, or
+ * CERT_NO_CLASS where the step isn't needed; then for each class its conclusion's pattern
+ * node, how many steps it has, how many variables, and for each variable whether it is
+ * flexible, 1 or 0.
  * Pattern words: for each node how many arguments it has, its head and the arguments; a
- * variable is 2, 2^32 - 2, its number, its sort. Zeros stand behind both.
+ * variable is 2, CERT_VARIABLE, its number, its sort. Zeros stand behind both.
  *
  * Code and place:
  *   0  0       done
@@ -116,9 +150,10 @@ struct cert_classes_answer {
  * that buffer longer, lend work for the new lengths, and call again. An 8 at a buffer of
  * 2^24 cells stands: the pack's classes are too many or too large for any.
  *
- * If cert_check answers 0 of the pack and the buffers suffice, the answer is 0, each needed
- * step's judgment is an instance of its class's conclusion, and a judgment is one exactly
- * if some derivation of the class's shape concludes it.
+ * If cert_check answers 0 of the pack and the buffers suffice, the answer is 0, two needed
+ * steps have one class exactly if their keys are equal, each needed step's judgment is an
+ * instance of its class's conclusion, and a judgment is one exactly if some derivation of
+ * the class's shape concludes it.
  */
 struct cert_classes_answer cert_classes(const uint8_t *pack, size_t pack_len,
                                         uint32_t *classes, size_t classes_len,

@@ -20,6 +20,8 @@ impl Limit {
     pub const WORDS: usize = 256;
 
     pub const NAME: usize = 64;
+    // A node's key: its head and its arguments.
+    pub const KEY: usize = 17;
 
     pub const CELLS: usize = 16777216;
 

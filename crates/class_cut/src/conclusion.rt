@@ -90,7 +90,7 @@ pub fn cut_conclusion(
     ensures { λ r. ⌜ Concludes (now (pack .entry)) (now (work .entry)) (now (words .entry)) (now (work .exit)) (now (words .exit)) c l st p r ⌝ }
 {
     let n = symbol_arity(pack, work, c, p as usize);
-    let mut key = [0; Limit::ARITY + 1];
+    let mut key = [0; Limit::KEY];
     key[0] = p;
     match fresh_variables(pack, work, words, c, l, st, p, n, &mut key) {
         Fresh::Grown(more) => intern_key(work, words, l, more, &key[0..n + 1]),

@@ -52,7 +52,7 @@ fn is_pattern(key: &[u32], n: usize) -> bool
     if key[0] == Pattern::VAR {
         return key.len() == 3;
     }
-    if Limit::ARITY + 1 < key.len() {
+    if Limit::KEY < key.len() {
         return false;
     }
     let end = key.len();

@@ -94,7 +94,7 @@ fn finish(
     requires { ⌜ Laid (now pack) (now work) (now words) c l st × Ripe (now pack) (now work) c l (n .0) ⌝ }
     ensures { λ r. ⌜ Finishes (now (pack .entry)) (now (work .entry)) (now (words .entry)) (now (work .exit)) (now (words .exit)) c l st (n .0) r ⌝ }
 {
-    let mut key = [0; Limit::ARITY + 1];
+    let mut key = [0; Limit::KEY];
     let k = key_of(pack, work, c, l, n, &mut key);
     let from = l.at + 3 * l.nodes;
     let end = l.end;

@@ -117,7 +117,7 @@ fn read_applied(
     requires { ⌜ Applying (now work) (now words) (now cells) l t st g numbered (x .0) ⌝ }
     ensures { λ r. ⌜ Applies (now (work .entry)) (now (words .entry)) (now (work .exit)) (now (words .exit)) (now (cells .entry)) l t st g numbered (x .0) r ⌝ }
 {
-    let mut key = [0; Limit::ARITY + 1];
+    let mut key = [0; Limit::KEY];
     let k = key_of(work, cells, t, g, x, &mut key);
     match intern_key(work, words, l, st, &key[0..k]) {
         Interned::Id(p, more) => Resolved::Read(p, more, numbered),

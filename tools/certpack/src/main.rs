@@ -11,8 +11,8 @@ certpack: packs of certificate records
   certpack make TEXT... -o PACK   make a pack from theory, goals, proof, cuts and
                                   abstract, in one text file or several
   certpack dump PACK              write a pack as lines that a person can read
-  certpack check PACK             test every step and goal; writes `0 0`, or the
-                                  answer's number and place
+  certpack check PACK             test every step and goal: says that all pass, or is
+                                  refused at the first that fails
   certpack judge FOLDER           judge the recorded vectors of a folder
   certpack theorems FOLDER N K    write every N-th recorded case, from the K-th on, as
                                   theorems of the definition
@@ -43,10 +43,7 @@ fn run(args: &[&str]) -> Result<String, Fault> {
         ["--help" | "-h" | "help"] => Ok(HELP.into()),
         ["make", rest @ ..] => make(rest),
         ["dump", path] => Ok(dump(&read(path)?)),
-        ["check", path] => {
-            let (number, place) = verdict(&read(path)?).unwrap_or((0, 0));
-            Ok(format!("{number} {place}\n"))
-        }
+        ["check", path] => check(path),
         ["judge", folder] => judge_all(folder),
         ["theorems", folder, n, k] => match (n.parse(), k.parse()) {
             (Ok(n @ 1..), Ok(k)) => theorems_of(folder, n, k),
@@ -69,6 +66,23 @@ fn make(args: &[&str]) -> Result<String, Fault> {
 fn read(path: &str) -> Result<Pack, Fault> {
     let refused = |r| Fault::Input(format!("{path}: refused, {r}"));
     decode(&file::read(path)?).map_err(refused)
+}
+
+fn check(path: &str) -> Result<String, Fault> {
+    match verdict(&read(path)?) {
+        None => Ok(format!(
+            "{path}: every step follows and every goal has its result\n"
+        )),
+        Some((number, place)) => {
+            let why = match number {
+                3 => format!("step {place} does not follow by its rule"),
+                _ => format!("goal {place} has no result with its judgment"),
+            };
+            Err(Fault::Input(format!(
+                "{path}: refused, {number} at {place}: {why}"
+            )))
+        }
+    }
 }
 
 fn theorems_of(folder: &str, n: usize, k: usize) -> Result<String, Fault> {

@@ -167,7 +167,11 @@ fn several_texts_are_one() {
     );
     assert_eq!(out.status.code(), Some(0), "{}", said(&out));
     let out = certpack(&folder, &["check", "x.pack"]);
-    assert_eq!(String::from_utf8_lossy(&out.stdout), "0 0\n");
+    assert_eq!(out.status.code(), Some(0));
+    assert_eq!(
+        String::from_utf8_lossy(&out.stdout),
+        "x.pack: every step follows and every goal has its result\n"
+    );
     write("goals", "(goal g (n (s z)))\n");
     let out = certpack(
         &folder,
@@ -175,7 +179,12 @@ fn several_texts_are_one() {
     );
     assert_eq!(out.status.code(), Some(0), "{}", said(&out));
     let out = certpack(&folder, &["check", "x.pack"]);
-    assert_eq!(String::from_utf8_lossy(&out.stdout), "4 0\n");
+    assert_eq!(out.status.code(), Some(1));
+    assert!(out.stdout.is_empty());
+    assert_eq!(
+        said(&out),
+        "certpack: x.pack: refused, 4 at 0: goal 0 has no result with its judgment\n"
+    );
     write("goals", "(goal g (n s))\n");
     let out = certpack(
         &folder,
@@ -186,6 +195,28 @@ fn several_texts_are_one() {
         "certpack: goals:1: s takes 1 arguments, not 0\n"
     );
     assert!(!folder.join("y.pack").exists());
+}
+
+/// The second step's record, of 8 bytes and kind 5, is made to name the other rule.
+#[test]
+fn a_step_that_fails() {
+    let folder = folder();
+    let text = format!("{THEORY}(step 0 nz () (n z))\n(step 1 ny () (n (s z)))\n");
+    let text = text.replace("(rule nz", "(rule ny () (n (s z)))\n(rule nz");
+    std::fs::write(folder.join("steps"), text).expect("a text");
+    let out = certpack(&folder, &["make", "steps", "-o", "z.pack"]);
+    assert_eq!(out.status.code(), Some(0), "{}", said(&out));
+    let mut pack = std::fs::read(folder.join("z.pack")).expect("a pack");
+    let step = [8, 0, 0, 0, 5, 0, 0, 0, 0, 0];
+    let at = pack.windows(10).position(|w| w == step).expect("a step");
+    pack[at + 6] = 1;
+    std::fs::write(folder.join("z.pack"), pack).expect("a pack");
+    let out = certpack(&folder, &["check", "z.pack"]);
+    assert_eq!(out.status.code(), Some(1));
+    assert_eq!(
+        said(&out),
+        "certpack: z.pack: refused, 3 at 1: step 1 does not follow by its rule\n"
+    );
 }
 
 #[test]
