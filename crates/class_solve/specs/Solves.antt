@@ -26,7 +26,7 @@ use Rattle.pack_tables.specs.declared.catalog.Catalog.{Catalog}
 use Rattle.graph.specs.declared.graph.Graph.{Graph as Counts}
 use Rattle.graph.specs.Cells.{rowsEnd}
 use Rattle.graph.specs.Pushes.{cells-shown}
-use Rattle.emit_chains.specs.Head.{premises-spelt}
+use Rattle.pack_read.specs.Clause.{premises-spelt}
 use Rattle.term_instantiate.specs.Variables.{variablesOf, Opening, Opens}
 use Rattle.term_instantiate.specs.declared.variables.Opened.the-variants as opened
 use Rattle.class_keys.specs.declared.classes.Keying.{Keying}

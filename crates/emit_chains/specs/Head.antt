@@ -3,17 +3,15 @@ use mathlib.Core.Path.{_≡_, refl, ap, _∙_}
 use mathlib.Core.List.{List, _++_}
 use Prim.Native.Nat.{ℕ, _+_, _<_, _≤_}
 use native.Mathlib.Omega.{arith}
-use lib.ListN.{length, getD, replicate, length-append, List·getD-append}
+use lib.ListN.{length, getD, length-append}
 use lib.Seq.{getD-at}
 use Rattle.definition.specs.Pack.{prop, Term, var, app, Pack, ruleOf}
-use Rattle.definition.specs.Certificate.{count}
 use Rattle.definition.specs.Good.{Below, Sorted}
 use Rattle.definition.specs.Laws.Prefix.{termWords, termsWords}
 use Rattle.definition.specs.Laws.Grow.{below-at}
-use Rattle.definition.specs.Laws.Suffix.{term-some, judgments-sorted}
+use Rattle.definition.specs.Laws.Suffix.{term-some}
 use Rattle.pack_read.specs.Reads.{ruleWords}
 use Rattle.pack_read.specs.Held.{Proper}
-use Rattle.pack_read.specs.Clause.{Spelt}
 
 -- the symbol on top of a term; a variable has none
 unfoldable pub topOf : Term → ℕ
@@ -33,17 +31,6 @@ module _ (P : Pack) (Q : Proper P) (r : ℕ) (l : r < length (P .rules)) where
 
   abbrev C : List ℕ
   C = termWords (ruleOf P r .conclusion)
-
-  -- the premises' words are the rule's first
-  pub premises-spelt : (vars : ℕ) → vars ≡ length (ruleOf P r .vars) → Spelt P r vars 0 (ruleOf P r .premises)
-  premises-spelt vars e = record {
-    rule = l;
-    many = e;
-    words = λ j h. let z : 0 + j ≡ j = omega arith in ap (λ (k : ℕ). getD (A ++ C) k 0) z ∙ List·getD-append A C 0 j h;
-    within = omega (arith, length-append A C);
-    sorts = replicate (count (ruleOf P r .premises)) prop;
-    sorted = judgments-sorted P (ruleOf P r .vars) (ruleOf P r .premises) (Q .good .rules r l .premises);
-  }
 
   module _ (i : ℕ) (passed : i ≡ 0 + length A) where
     pub conclusion-there : i < length (ruleWords (ruleOf P r))

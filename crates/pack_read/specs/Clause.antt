@@ -1,15 +1,15 @@
 -- Terms whose words are those of a rule from some place on, and passing over them.
 use mathlib.Core.Path.{_≡_, sym, ap, _∙_}
-use mathlib.Core.List.{List}
+use mathlib.Core.List.{List, _++_}
 use Prim.Native.Nat.{ℕ, suc, _+_, _-_, _<_, _≤_}
 use native.Mathlib.Omega.{arith}
-use lib.ListN.{length, getD, length-append, length-drop}
-use Rattle.definition.specs.Pack.{Terms, nil, Pack, symbolOf, ruleOf}
+use lib.ListN.{length, getD, replicate, length-append, length-drop, List·getD-append}
+use Rattle.definition.specs.Pack.{prop, Terms, nil, Pack, symbolOf, ruleOf}
 use Rattle.definition.specs.Certificate.{count}
 use Rattle.definition.specs.Theory.{variable}
 use Rattle.definition.specs.Good.{SortedAll, Good}
 use Rattle.definition.specs.Laws.Prefix.{termWords, termsWords, term-length, terms-length}
-use Rattle.definition.specs.Laws.Suffix.{next, after, Ahead, a-variable, a-symbol, after-sorted, after-words, after-ahead, words-some, sorts-many, joined-many, none-left}
+use Rattle.definition.specs.Laws.Suffix.{next, after, Ahead, a-variable, a-symbol, after-sorted, after-words, after-ahead, words-some, sorts-many, joined-many, none-left, judgments-sorted}
 use Rattle.pack_read.specs.Reads.{ruleWords}
 use Rattle.pack_read.specs.Held.{Proper}
 
@@ -113,3 +113,17 @@ module _ (P : Pack) (Q : Proper P) (r vars from : ℕ) (ts : Terms) (S : Spelt P
         passing-next n B =
             let e : i + 1 - from ≡ suc (i - from) = omega (arith, p .low) in
             record { low = omega (arith, p .low); within = omega (arith, inside, p .low); many = ap (λ (k : ℕ). count (after ts k)) e ∙ count-next n B here }
+
+-- the premises' words are the rule's first
+pub premises-spelt : (P : Pack) → Proper P → (r : ℕ) → r < length (P .rules) → (vars : ℕ) → vars ≡ length (ruleOf P r .vars) → Spelt P r vars 0 (ruleOf P r .premises)
+premises-spelt P Q r l vars e =
+    let A : List ℕ = termsWords (ruleOf P r .premises) in
+    let C : List ℕ = termWords (ruleOf P r .conclusion) in
+    record {
+      rule = l;
+      many = e;
+      words = λ j h. let z : 0 + j ≡ j = omega arith in ap (λ (k : ℕ). getD (A ++ C) k 0) z ∙ List·getD-append A C 0 j h;
+      within = omega (arith, length-append A C);
+      sorts = replicate (count (ruleOf P r .premises)) prop;
+      sorted = judgments-sorted P (ruleOf P r .vars) (ruleOf P r .premises) (Q .good .rules r l .premises);
+    }

@@ -5,7 +5,8 @@ use native.Mathlib.Omega.{arith}
 use lib.ListN.{length}
 use Rattle.definition.specs.Pack.{ruleOf}
 use Rattle.pack_read.specs.Held.{readable}
-use Rattle.emit_chains.specs.Head.{premises-spelt, conclusion-there, conclusion-first}
+use Rattle.pack_read.specs.Clause.{premises-spelt}
+use Rattle.emit_chains.specs.Head.{conclusion-there, conclusion-first}
 use Rattle.emit_chains.proofs.head.rule_head.Statement.{statement}
 use Rattle.emit_chains.proofs.head.rule_head.Tie as tie
 
