@@ -61,7 +61,8 @@ fn match_turn(
     }
 }
 
-// Whether rule `r` matches the nodes on the stack, its premises in their order and then its conclusion.
+// Whether rule `r` matches the nodes on the stack, its premises in their order and then its conclusion. What the stack and the values'
+// words hold then is left open.
 pub fn rule_matches(
     pack: &[u8],
     work: &[u32],

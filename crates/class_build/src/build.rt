@@ -103,7 +103,8 @@ fn build_from(
     }
 }
 
-// Class building from a pack that was read into work, by its tables.
+// Class building from a pack that was read into work, by its tables. What work and the cells hold then is left open, and behind a
+// refusal what any buffer holds: the call clears them.
 pub fn build(
     pack: &[u8],
     work: &mut [u32],

@@ -10,7 +10,7 @@ ghost use mathlib.Core.Path.{_≡_};
 ghost use Rattle.class_keys.specs.Writing.{Asked, Written, WrittenRule};
 ghost use lib.ListN.{length};
 
-// The key of step `s`, which is not cut; how many words these are.
+// The key of step `s`, which is not cut; how many words these are. What stands behind them is left open.
 fn write_rule_key(
     pack: &[u8],
     work: &[u32],
@@ -36,7 +36,7 @@ fn write_rule_key(
     n + 2
 }
 
-// The key of step `s`; how many words these are.
+// The key of step `s`; how many words these are. What stands behind them is left open.
 pub fn write_key(
     pack: &[u8],
     work: &[u32],

@@ -64,7 +64,7 @@ fn take_record(
     take_abstract(pack, body, work, c, at)
 }
 
-// The record at `at`, which has this header, taken up.
+// The record at `at`, which has this header, taken up. Where it is bad or over a limit, what work holds then is left open.
 pub fn take_next(pack: &[u8], work: &mut [u32], c: Catalog, at: usize, header: Header) -> Next
     requires { ⌜ Meeting (now pack) (now work) c at header ⌝ }
     ensures { λ r. ⌜ Goes (now (pack .entry)) (now (work .entry)) (now (work .exit)) c at r ⌝ }

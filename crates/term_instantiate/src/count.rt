@@ -4,7 +4,7 @@ ghost use Prim.Native.Nat.{_≤_};
 ghost use lib.ListN.{length, take};
 ghost use Rattle.definition.specs.Graph.{upTo};
 
-// The first `n` words are the numbers below `n`.
+// The first `n` words are the numbers below `n`; what stands behind them is left open.
 pub fn count_up(env: &mut [u32], n: usize)
     requires { ⌜ (n ≤ length (now env)) × (n ≤ 64) ⌝ }
     ensures { λ _. ⌜ take n (now (env .exit)) ≡ upTo n ⌝ }

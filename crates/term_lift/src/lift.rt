@@ -64,7 +64,7 @@ fn enter(work: &mut [u32], at: usize, taken: u32, a: u32)
     work[at + 3] = 0;
 }
 
-// The head of node `n`, then what its arguments were lifted to; how many words these are.
+// The head of node `n`, then what its arguments were lifted to; how many words these are. What stands behind them is left open.
 fn key_of(pack: &[u8], work: &[u32], c: Catalog, l: Lifted, n: Ground, key: &mut [u32]) -> usize
     requires { ⌜ Ripe (now pack) (now work) c l (n .0) × (length (now key) ≡ 17) ⌝ }
     ensures { λ r. ⌜ Keyed (now (pack .entry)) (now (work .entry)) c l (n .0) (now (key .exit)) r ⌝ }
