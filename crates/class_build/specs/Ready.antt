@@ -45,17 +45,21 @@ use Rattle.class_build.specs.Begin.{Indexable, StoreBegun}
 use Rattle.class_build.specs.declared.ready.Ready.{Ready}
 use Rattle.class_build.specs.declared.ready.Ready.the-variants as answers
 
+-- what class building spends of work: 7 words a pattern word, 15 a graph cell, 8 a byte of the pack, and some
+abbrev pub leastRoom : List ℕ → List ℕ → List ℕ → ℕ
+leastRoom words cells bytes = 7 * length words + 15 * length cells + 8 * length bytes + 200
+
 -- a pack was read into work, and the lengths pass
 pub record Opened (bytes work words cells : List ℕ) (c : Catalog) : Type 0 where
   pub tables : c ≡ tablesOf (length bytes)
   pub held : Held bytes work c
   pub marks : Marks bytes work c
   pub small : length words ≤ mostCells
-  pub room : 16 * (length words + length cells + length bytes) + 1024 ≤ length work
+  pub room : leastRoom words cells bytes ≤ length work
 
 -- so it is when a pack was opened
 pub opened : (bytes work words cells : List ℕ) (c : Catalog) → c ≡ tablesOf (length bytes) → (P : Pack) → parse bytes ≡ fine P → Represents bytes work P → length words ≤ mostCells
-    → 16 * (length words + length cells + length bytes) + 1024 ≤ length work → Opened bytes work words cells c
+    → leastRoom words cells bytes ≤ length work → Opened bytes work words cells c
 opened bytes work words cells c e P f R small room = record {
   tables = e;
   held = represents-held bytes work c e P f R;
