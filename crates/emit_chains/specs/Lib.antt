@@ -2,3 +2,4 @@
 pub mod Chain
 pub mod Chaining
 pub mod Head
+pub mod Places
