@@ -3,12 +3,34 @@ use class_build::build::Answer as Built;
 use class_build::build::build;
 use dock_call::answer::Outcome;
 use dock_call::lent::Lent;
-use dock_call::opening::open_pack;
+use dock_call::lent::test_lengths;
+use dock_call::opening::take_pack;
 use pack_reader::read::tables;
-ghost use Rattle.dock.specs.Comes.{Comes};
+ghost use Rattle.dock.specs.Comes.{Spacious, Runs, Comes};
 
-// The lengths tested, the pack read, its classes built and its goals tested. What stands behind the words of an answer, and in all
-// buffers behind a refusal, is the call's to clear.
+// The pack read, its classes built and its goals tested, in a work buffer, or a part of one, that has room for what this spends. What
+// stands behind the words of an answer, and in all buffers behind a refusal, is left open.
+fn run_classes(
+    pack: &[u8],
+    class: &mut [u32],
+    pattern: &mut [u32],
+    graph: &mut [u32],
+    work: &mut [u32],
+) -> Built
+    requires { ⌜ Spacious (now pack) (now class) (now pattern) (now graph) (now work) ⌝ }
+    ensures { λ r. ⌜ Runs (now (pack .entry)) (now (class .entry)) (now (pattern .entry)) (now (graph .entry)) (now (class .exit)) (now (pattern .exit)) r ⌝ }
+{
+    match take_pack(pack, work) {
+        Outcome::Done => {
+            let c = tables(pack);
+            build(pack, work, class, pattern, graph, c)
+        }
+        Outcome::Refused(r) => Built::Refused(r),
+    }
+}
+
+// The lengths tested, then the run. What stands behind the words of an answer, and in all buffers behind a refusal, is the call's to
+// clear.
 pub fn classes_outcome(
     pack: &[u8],
     class: &mut [u32],
@@ -27,11 +49,8 @@ pub fn classes_outcome(
         text: 0,
         goals: 0,
     };
-    match open_pack(lent, pack, work) {
-        Outcome::Done => {
-            let c = tables(pack);
-            build(pack, work, class, pattern, graph, c)
-        }
+    match test_lengths(lent) {
+        Outcome::Done => run_classes(pack, class, pattern, graph, work),
         Outcome::Refused(r) => Built::Refused(r),
     }
 }

@@ -26,6 +26,11 @@ openingRefusal l pack =
       | none ↦ elim (parse pack) [ refuse r ↦ some r | fine P ↦ none ]
     ]
 
+-- the pack is read, or its first bad record
+abbrev pub Takes : List ℕ → List ℕ → Outcome → Type 0
+Takes pack work′ Done = (P : Pack) × (parse pack ≡ fine P) × Represents pack work′ P
+Takes pack work′ (Refused r) = parse pack ≡ refuse r
+
 -- the lengths pass and the pack is read, or the refusal
 abbrev pub Opens : Given → List ℕ → List ℕ → Outcome → Type 0
 Opens l pack work′ Done = (lengths (lentOf l) ≡ none) × (P : Pack) × (parse pack ≡ fine P) × Represents pack work′ P
@@ -61,3 +66,8 @@ module _ (l : Lent) (pack : List ℕ) where
     pub pack-opened : (P : Pack) → parse pack ≡ fine P → openingRefusal l pack ≡ none
     unfolding openingRefusal
     pack-opened P e = rw (← fit, e, openingRefusal)
+
+-- behind lengths that pass the pack is taken
+pub takes-opens : (l : Given) (pack work′ : List ℕ) (o : Outcome) → lengths (lentOf l) ≡ none → Takes pack work′ o → Opens l pack work′ o
+takes-opens l pack work′ Done fit T = (fit, T .0, T .1, T .2)
+takes-opens l pack work′ (Refused r) fit T = pack-refused (lentOf l) pack (sym fit) r T

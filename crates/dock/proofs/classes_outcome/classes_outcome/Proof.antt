@@ -1,21 +1,25 @@
 -- `classes_outcome` meets its contract.
 use borrow.Author.Needs.{needs}
-use Rattle.dock.specs.Comes.{comes-refused, comes-opened, comes-built}
+use mathlib.Core.Path.{sym, ap, _∙_}
+use Rattle.dock_call.specs.Outcome.{refusalOf}
+use Rattle.dock.specs.Comes.{comes-refused, comes-spacious, comes-run}
 use Rattle.dock.proofs.classes_outcome.classes_outcome.Statement.{statement}
 use Rattle.dock.proofs.classes_outcome.classes_outcome.Tie as tie
 
-build-requires : tie.Need-build-requires
-build-requires c κs =
-    let o = rw (c .before .before .before .before .before .enum-told .given .1) at (c .before .before .before .before .before .before .before .before .before .open-pack .ensures) in
-    comes-opened _ (c .before .before .before .before .before .before .before .before .before .before .before .before .before .before .before .before .args .class .now) _ _ (c .before .before .before .before .before .before .before .before .before .before .before .before .before .before .before .before .args .work .now) _ (o .0) (o .1) (o .2) (o .3) (c .before .before .before .before .before .before .before .before .before .open-pack .kept .1 .1 .0) _ (c .before .before .before .before .tables .ensures)
+run-classes-requires : tie.Need-run-classes-requires
+run-classes-requires c κs =
+    let a = c .before .before .before .before .before .before .before .before .before .before .before .before .args in
+    comes-spacious (a .pack .now) (a .class .now) (a .pattern .now) (a .graph .now) (a .work .now) (sym (c .before .before .before .before .before .before .test-lengths .ensures) ∙ ap refusalOf (c .before .before .before .before .enum-told .given .1))
 
 returns : tie.Need-returns
 returns c =
-    let o = rw (c .before .before .before .before .before .before .before .before .before .before .before .before .before .before .enum-told .given .1) at (c .before .before .before .before .before .before .before .before .before .before .before .before .before .before .before .before .before .before .open-pack .ensures) in
-    comes-built _ _ _ _ _ _ (o .0) (o .1) (o .2) (o .3) (c .before .before .before .before .before .before .before .before .before .before .before .before .before .before .before .before .before .before .open-pack .kept .1 .1 .0) _ (c .before .before .before .before .before .before .before .before .before .before .before .before .before .tables .ensures) _ _ (c .before .before .before .before .before .before .before .before .build .result) (c .before .before .before .before .before .before .before .before .build .ensures)
+    let a = c .before .before .before .before .before .before .before .before .before .before .before .before .before .before .before .before .before .before .before .before .before .args in
+    comes-run (a .pack .now) (a .class .now) (a .pattern .now) (a .graph .now) (a .work .now) (sym (c .before .before .before .before .before .before .before .before .before .before .before .before .before .before .before .test-lengths .ensures) ∙ ap refusalOf (c .before .before .before .before .before .before .before .before .before .before .before .before .before .enum-told .given .1)) _ _ (c .before .before .before .before .before .before .before .before .run-classes .result) (c .before .before .before .before .before .before .before .before .run-classes .ensures)
 
 returns-2 : tie.Need-returns-2
-returns-2 c = let a = c .before .before .before .before .before .before .before .before .before .before .before .before .args in comes-refused (a .pack .now) (a .class .now) (a .pattern .now) (a .graph .now) (a .work .now) (c .before .before .before .before .before .before .before .before .before .before .before .before .args .class .now) (c .before .before .before .before .before .before .before .before .before .before .before .before .args .pattern .now) _ (rw (c .before .r .given .1) at (c .before .before .before .before .before .open-pack .ensures))
+returns-2 c =
+    let a = c .before .before .before .before .before .before .before .before .before .args in
+    comes-refused (a .pack .now) (a .class .now) (a .pattern .now) (a .graph .now) (a .work .now) (a .class .now) (a .pattern .now) _ (sym (c .before .before .before .test-lengths .ensures) ∙ ap refusalOf (c .before .r .given .1))
 
 pub classes-outcome-spec : {M : Type 1} → statement M
 classes-outcome-spec =
@@ -23,13 +27,11 @@ classes-outcome-spec =
     (tie.spec
     (λ c κs. search needs)
     (λ c. search needs)
-    (λ c κs. search needs)
-    build-requires
+    run-classes-requires
     (λ c. search needs)
     (λ c. search needs)
     (λ c. search needs)
     (λ c. search needs)
     (λ c. search needs)
     returns
-    (λ c. search needs)
     returns-2)
