@@ -1,14 +1,9 @@
 -- One pair taken: two roots meet.
 use mathlib.Core.Path.{_≡_, sym, ap, _∙_}
-use mathlib.Core.Bool.{Bool, true, false, _||_}
 use mathlib.Core.List.{List}
 use Prim.Native.Nat.{ℕ, _+_, _*_, _<_}
 use native.Mathlib.Omega.{arith}
-use borrow.Author.Tests.{eq-eqb, ne-eqb}
-use lib.Dec.{eqb}
-use Rattle.definition.specs.Test.{is, see}
-use Rattle.definition.specs.Store.{variableHead}
-use Rattle.definition.specs.Graph.{Graph, Pair, on, clashed, vertex, isFree, isVar, bind, join, lastFirst, meet}
+use Rattle.definition.specs.Graph.{Graph, Pair, on, clashed, vertex, bind, join, lastFirst, meet}
 use Rattle.theory.specs.Unification.Turn.{meet-same}
 use Rattle.graph.specs.declared.graph.Graph.{Graph as Counts}
 use Rattle.graph_unify.specs.declared.pairs.Pairs.{Pairs}

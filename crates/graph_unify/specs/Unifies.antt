@@ -1,22 +1,18 @@
 -- Unification: pairs are taken from the stack until none is left.
 use mathlib.Core.Path.{_≡_, refl, sym, ap, ap₂, subst, _∙_}
-use mathlib.Core.Bool.{true, false, _||_}
-use mathlib.Core.List.{List, [], _∷_}
+use mathlib.Core.List.{List, []}
 use mathlib.Core.Option.{none, some}
 use Prim.Native.Nat.{ℕ, zero, suc, _+_, _*_, _-_, _≤_, _<_}
 use native.Mathlib.Omega.{arith}
-use native.Mathlib.Decide.{ℕ-discrete}
 use lib.ListN.{length, getD, set, length-set}
 use lib.Seq.{getD-set-same, getD-set-other}
-use Rattle.definition.specs.Test.{is, see, never}
-use Rattle.definition.specs.Good.{Below}
-use Rattle.definition.specs.Graph.{Graph, Pair, on, clashed, vertex, isFree, isVar, bind, join, lastFirst, meet, root, cells, takePairs, unify}
-use Rattle.theory.specs.Unification.Solve.{SameNodes, openCells}
+use Rattle.definition.specs.Test.{never}
+use Rattle.definition.specs.Graph.{Graph, Pair, on, clashed, vertex, meet, root, cells, takePairs, unify}
+use Rattle.theory.specs.Unification.Solve.{openCells}
 use Rattle.theory.specs.Unification.Forest.{root-inside, root-self}
 use Rattle.theory.specs.Unification.Like.{own-root}
 use Rattle.theory.specs.Unification.Unify.{take-clashed, take-on, open-most}
-use Rattle.theory.specs.Unification.Join.{same-refl, join-joined, bind-joined}
-use Rattle.theory.specs.Unification.Pairs.{args-length}
+use Rattle.theory.specs.Unification.Join.{join-joined}
 use Rattle.theory.specs.Unification.Inner.{same-inner}
 use Rattle.theory.specs.Unification.Turn.{Within, meet-keeps}
 use Rattle.graph.specs.declared.graph.Graph.{Graph as Counts}

@@ -3,7 +3,7 @@ use mathlib.Core.Path.{refl}
 use mathlib.Core.List.{List, [], _∷_, _++_}
 use Prim.Native.Nat.{ℕ}
 use Rattle.definition.specs.Pack.{prop}
-use Rattle.definition.specs.Rows.Say.{sort, symbol, rule, node, step, goal, result, cut, X}
+use Rattle.definition.specs.Rows.Say.{sort, symbol, rule, node, step, goal, result, X}
 use Rattle.definition.specs.Rows.Packs.{natNodes, example, circling, clashing, unmet}
 use Rattle.definition.specs.Rows.Row.{Row, check, Claim, seen, Holds}
 

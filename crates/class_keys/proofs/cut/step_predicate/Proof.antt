@@ -1,5 +1,4 @@
 -- `step_predicate` meets its contract.
-use borrow.Author.Needs.{needs}
 use mathlib.Core.Path.{ap, _∙_}
 use Prim.Native.Nat.{ℕ}
 use Rattle.definition.specs.Pack.{nodeOf}
