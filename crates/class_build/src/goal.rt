@@ -27,6 +27,13 @@ pub enum Goal {
     Other(usize),
 }
 
+// Where the instance test has its tables in work, and its memos as they are: the pattern nodes met, the values of variables.
+pub struct Testing {
+    pub tables: Instance,
+    pub seen: Memo,
+    pub values: Memo,
+}
+
 // The conclusion of step `f`'s class.
 fn conclusion_of(work: &[u32], class: &[u32], l: Layout, f: usize) -> Pattern
     requires { ⌜ (f < length (now class)) × (l .rows + getD (now class) f 0 < length (now work)) × (rowIn (now work) (now class) l f < length (now class)) ⌝ }
@@ -46,21 +53,19 @@ pub fn test_goal(
     c: Catalog,
     k: Keying,
     l: Layout,
-    t: Instance,
     st: Store,
-    seen: Memo,
-    values: Memo,
+    t: Testing,
     g: usize,
 ) -> Goal
-    requires { ⌜ Testable (now pack) (now work) (now class) (now words) c k l t st seen values × (g < length (recordsOf (now work) c 5)) ⌝ }
-    ensures { λ r. ⌜ TestsOne (now (pack .entry)) (now (work .entry)) (now (work .exit)) (now (class .entry)) (now (words .entry)) c k l t st g r ⌝ }
+    requires { ⌜ Testable (now pack) (now work) (now class) (now words) c k l (t .tables) st (t .seen) (t .values) × (g < length (recordsOf (now work) c 5)) ⌝ }
+    ensures { λ r. ⌜ TestsOne (now (pack .entry)) (now (work .entry)) (now (work .exit)) (now (class .entry)) (now (words .entry)) c k l (t .tables) st g r ⌝ }
 {
     match goal_step(pack, work, c, g) {
         Sought::At(s) => {
             let f = first_of(pack, work, c, k.at, s);
             let p = conclusion_of(work, class, l, f);
             let m = goal_judgment(pack, work, c, g);
-            match instance(pack, work, words, c, t, st, seen, values, p, m) {
+            match instance(pack, work, words, c, t.tables, st, t.seen, t.values, p, m) {
                 Matched::Yes(seen, values) => {
                     return Goal::Met(seen, values);
                 }

@@ -1,4 +1,5 @@
 // The goals when all classes are made: the instance test's tables are begun behind the store's index, then each goal is tested.
+use crate::goal::Testing;
 use crate::goals_each::Tested;
 use crate::goals_each::test_each;
 use class_keys::classes::Keying;
@@ -29,5 +30,10 @@ pub fn test_goals(
     let e = t.end;
     let seen = begin(work, a, b);
     let values = begin(work, b, e);
-    test_each(pack, work, class, words, c, k, l, t, st, seen, values)
+    let at = Testing {
+        tables: t,
+        seen: seen,
+        values: values,
+    };
+    test_each(pack, work, class, words, c, k, l, st, at)
 }

@@ -1,12 +1,12 @@
 // One goal after the other, in ascending order.
 use crate::goal::Goal;
+use crate::goal::Testing;
 use crate::goal::test_goal;
 use class_keys::classes::Keying;
 use class_premises::layout::Layout;
 use memo::memo::Memo;
 use pack_tables::catalog::Catalog;
 use store::nodes::Store;
-use term_instance::tables::Instance;
 ghost use Rattle.class_build.specs.Testable.{Testable};
 ghost use Rattle.class_build.specs.EachGoal.{TestsEach};
 
@@ -27,23 +27,27 @@ pub fn test_each(
     c: Catalog,
     k: Keying,
     l: Layout,
-    t: Instance,
     st: Store,
-    seen: Memo,
-    values: Memo,
+    t: Testing,
 ) -> Tested
-    requires { ⌜ Testable (now pack) (now work) (now class) (now words) c k l t st seen values ⌝ }
-    ensures { λ r. ⌜ TestsEach (now (pack .entry)) (now (work .entry)) (now (work .exit)) (now (class .entry)) (now (words .entry)) c k l t st r ⌝ }
+    requires { ⌜ Testable (now pack) (now work) (now class) (now words) c k l (t .tables) st (t .seen) (t .values) ⌝ }
+    ensures { λ r. ⌜ TestsEach (now (pack .entry)) (now (work .entry)) (now (work .exit)) (now (class .entry)) (now (words .entry)) c k l (t .tables) st r ⌝ }
 {
     let goals = c.count(work, Catalog::GOALS);
-    let mut sm = seen;
-    let mut vm = values;
+    let tables = t.tables;
+    let mut seen = t.seen;
+    let mut values = t.values;
     let mut g: usize = 0;
     while g < goals {
-        match test_goal(pack, work, class, words, c, k, l, t, st, sm, vm, g) {
+        let at = Testing {
+            tables: tables,
+            seen: seen,
+            values: values,
+        };
+        match test_goal(pack, work, class, words, c, k, l, st, at, g) {
             Goal::Met(s, v) => {
-                sm = s;
-                vm = v;
+                seen = s;
+                values = v;
             }
             Goal::Unmet => {
                 return Tested::Unmet(g);
@@ -54,5 +58,5 @@ pub fn test_each(
         }
         g += 1;
     }
-    Tested::Met(sm, vm)
+    Tested::Met(seen, values)
 }
