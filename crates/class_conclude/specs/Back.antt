@@ -32,6 +32,7 @@ use Rattle.term_readback.specs.Stacks.{Answers}
 use Rattle.term_readback.specs.declared.root.Resolved.the-variants as read
 use Rattle.class_premises.specs.Standing.{liftedOf}
 use Rattle.class_conclude.specs.declared.entries.Entries.the-variants as entries
+use Rattle.class_conclude.specs.declared.top.Wanted.{Wanted}
 use Rattle.class_conclude.specs.declared.top.Back.{Back}
 use Rattle.class_conclude.specs.declared.top.Back.the-variants.{Read, Short}
 use Rattle.class_conclude.specs.Entries.{tableOf, Holds, readFlex, renamed, AllAsked, AllReads}
@@ -59,6 +60,10 @@ BackReads bytes work words work′ words′ cells c l st before g x copies (Read
 BackReads bytes work words work′ words′ cells c l st before g x copies Short =
     (P : Pack) (h : Graph) (vs : List Bound) → Topped bytes work words cells c l st before g x copies P h vs
     → length words < length (patternWords (readFlex P h vs (copiesIn work cells l copies) (readTop P h vs x (nodes words st) .state) .state .store))
+
+-- of what is wanted
+abbrev pub BackReadsAt : (bytes work words work′ words′ cells : List ℕ) (c : Catalog) (l : Layout) (st : Store) (g : Counts) (w : Wanted) → Back → Type 0
+BackReadsAt bytes work words work′ words′ cells c l st g w r = BackReads bytes work words work′ words′ cells c l st (w .before) g (w .node .0) (w .copies) r
 
 module _ (bytes work words cells : List ℕ) (c : Catalog) (l : Layout) (st : Store) (before : ℕ) (g : Counts) (x copies : ℕ) (K : Topping bytes work words cells c l st before g x copies) (work₁ : List ℕ) (R : Prepares work work₁ cells l before g) where
   -- nothing was read back

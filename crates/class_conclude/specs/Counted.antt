@@ -41,6 +41,7 @@ use Rattle.class_conclude.specs.declared.conclude.Concluded.{Concluded}
 use Rattle.class_conclude.specs.declared.conclude.Conclusion.{Conclusion}
 use Rattle.class_conclude.specs.declared.conclude.Conclusion.the-variants.{Read, ShortGraph, ShortPatterns}
 use Rattle.class_conclude.specs.Entries.{tableOf, Holds, readFlex, renamed}
+use Rattle.class_conclude.specs.declared.top.Wanted.{Wanted}
 use Rattle.class_conclude.specs.Top.{Topped, Topping}
 use Rattle.class_conclude.specs.Back.{readTop, BackRead, BackReads}
 
@@ -131,6 +132,10 @@ TopReads bytes work words work′ words′ cells c l st before g x copies ShortG
 TopReads bytes work words work′ words′ cells c l st before g x copies ShortPatterns =
     (P : Pack) (h : Graph) (vs : List Bound) → Topped bytes work words cells c l st before g x copies P h vs
     → length words < length (patternWords (readFlex P h vs (copiesIn work cells l copies) (readTop P h vs x (nodes words st) .state) .state .store))
+
+-- of what is wanted
+abbrev pub TopReadsAt : (bytes work words work′ words′ cells : List ℕ) (c : Catalog) (l : Layout) (st : Store) (g : Counts) (w : Wanted) → Conclusion → Type 0
+TopReadsAt bytes work words work′ words′ cells c l st g w r = TopReads bytes work words work′ words′ cells c l st (w .before) g (w .node .0) (w .copies) r
 
 module _ (bytes work words cells : List ℕ) (c : Catalog) (l : Layout) (st : Store) (before : ℕ) (g : Counts) (x copies : ℕ) (K : Topping bytes work words cells c l st before g x copies) (work₁ words₁ : List ℕ) (p : Pattern) (st₁ : Store) (n k : ℕ)
     (B : BackReads bytes work words work₁ words₁ cells c l st before g x copies (back.Read st₁ p n k)) where

@@ -37,6 +37,7 @@ use Rattle.term_readback.specs.Kept.{lifts-on}
 use Rattle.term_readback.specs.Stacks.{Clears}
 use Rattle.class_premises.specs.Standing.{liftedOf}
 use Rattle.theory.specs.Making.FewArgs.{FewArgs}
+use Rattle.class_conclude.specs.declared.top.Wanted.{Wanted}
 use Rattle.class_conclude.specs.Entries.{tableOf, Holds}
 
 -- ---- what is asked
@@ -65,6 +66,10 @@ pub record Topping (bytes work words cells : List ℕ) (c : Catalog) (l : Layout
   pub graph : Graph
   pub values : List Bound
   pub topped : Topped bytes work words cells c l st before g x copies pack graph values
+
+-- of what is wanted
+abbrev pub ToppingAt : (bytes work words cells : List ℕ) (c : Catalog) (l : Layout) (st : Store) (g : Counts) (w : Wanted) → Type 0
+ToppingAt bytes work words cells c l st g w = Topping bytes work words cells c l st (w .before) g (w .node .0) (w .copies)
 
 -- ---- the table made ready
 -- the words of values from a node on are zeros, then nothing was read back

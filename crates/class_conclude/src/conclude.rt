@@ -1,8 +1,8 @@
 // The conclusion of a step's rule, behind its premises: put into the graph and read back.
 use crate::fixed::count_fixed;
 use crate::top::Back;
+use crate::top::Wanted;
 use crate::top::read_back;
-use base::id::Node;
 use base::id::Pattern;
 use class_premises::layout::Layout;
 use graph::graph::Graph;
@@ -13,8 +13,8 @@ use store::nodes::Store;
 use term_instantiate::terms::Place;
 use term_instantiate::terms::instantiate;
 use term_readback::table::Table;
-ghost use Rattle.class_conclude.specs.Top.{Topping};
-ghost use Rattle.class_conclude.specs.Counted.{TopReads};
+ghost use Rattle.class_conclude.specs.Top.{ToppingAt};
+ghost use Rattle.class_conclude.specs.Counted.{TopReadsAt};
 ghost use Rattle.class_conclude.specs.Concludes.{Concluding, Concludes};
 
 // A rule and how many variables it has; the word of it that its conclusion starts with; how many variables of copies are noted.
@@ -41,7 +41,7 @@ pub enum Conclusion {
     ShortPatterns,
 }
 
-// Node `x` and so many variables of copies read back, and the fixed variables counted; nodes from `before` on have no value.
+// The node wanted and the variables of copies read back, and the fixed variables counted.
 fn read_top(
     pack: &[u8],
     work: &mut [u32],
@@ -50,15 +50,13 @@ fn read_top(
     c: Catalog,
     l: Layout,
     st: Store,
-    before: usize,
     g: Graph,
-    x: Node,
-    copies: usize,
+    w: Wanted,
 ) -> Conclusion
-    requires { ⌜ Topping (now pack) (now work) (now words) (now cells) c l st before g (x .0) copies ⌝ }
-    ensures { λ r. ⌜ TopReads (now (pack .entry)) (now (work .entry)) (now (words .entry)) (now (work .exit)) (now (words .exit)) (now (cells .entry)) c l st before g (x .0) copies r ⌝ }
+    requires { ⌜ ToppingAt (now pack) (now work) (now words) (now cells) c l st g w ⌝ }
+    ensures { λ r. ⌜ TopReadsAt (now (pack .entry)) (now (work .entry)) (now (words .entry)) (now (work .exit)) (now (words .exit)) (now (cells .entry)) c l st g w r ⌝ }
 {
-    match read_back(pack, work, words, cells, c, l, st, before, g, x, copies) {
+    match read_back(pack, work, words, cells, c, l, st, g, w) {
         Back::Read(more, p, n, k) => {
             let t = Table {
                 at: l.graph,
@@ -68,7 +66,7 @@ fn read_top(
             let read = Concluded {
                 pattern: p,
                 numbered: n,
-                entries: copies,
+                entries: w.copies,
                 renamings: k,
                 fixed: fixed,
             };
@@ -103,7 +101,12 @@ pub fn conclude(
     };
     match instantiate(pack, work, cells, c, place, g, env, q.from, to) {
         Pushed::At(x, h) => {
-            read_top(pack, work, words, cells, c, l, st, g.nodes, h, x, q.copies)
+            let wanted = Wanted {
+                before: g.nodes,
+                node: x,
+                copies: q.copies,
+            };
+            read_top(pack, work, words, cells, c, l, st, h, wanted)
         }
         Pushed::Short => Conclusion::ShortGraph,
     }

@@ -8,6 +8,7 @@ use store::nodes::Store;
 use term_lift::lift::Lifted;
 use term_readback::resolve::resolve;
 use term_readback::root::Resolved;
+use term_readback::table::Reading;
 use term_readback::table::Table;
 ghost use mathlib.Core.Path.{_≡_};
 ghost use Prim.Native.Nat.{_<_};
@@ -66,20 +67,14 @@ fn read_entry(
         at: l.graph,
         end: l.end,
     };
-    match resolve(
-        pack,
-        work,
-        words,
-        cells,
-        c,
-        lifted,
-        t,
-        st,
-        g,
-        numbered,
-        false,
-        x,
-    ) {
+    let reading = Reading {
+        catalog: c,
+        lifted: lifted,
+        table: t,
+        graph: g,
+        everyone: false,
+    };
+    match resolve(pack, work, words, cells, reading, st, numbered, x) {
         Resolved::Read(p, more, n) => {
             let k = renames(work, words, l, more, p);
             Entries::Read(more, n, k)

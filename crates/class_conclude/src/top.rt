@@ -12,12 +12,20 @@ use term_lift::lift::Lifted;
 use term_readback::resolve::clear;
 use term_readback::resolve::resolve;
 use term_readback::root::Resolved;
+use term_readback::table::Reading;
 use term_readback::table::Table;
 ghost use Prim.Native.Nat.{_+_, _≤_};
 ghost use lib.ListN.{length};
 ghost use Rattle.term_readback.specs.Words.{tableEnd};
-ghost use Rattle.class_conclude.specs.Top.{Prepares, Topping};
-ghost use Rattle.class_conclude.specs.Back.{BackReads};
+ghost use Rattle.class_conclude.specs.Top.{Prepares, ToppingAt};
+ghost use Rattle.class_conclude.specs.Back.{BackReadsAt};
+
+// What is read back: a node, and so many variables of copies. Nodes from `before` on have no value.
+pub struct Wanted {
+    pub before: usize,
+    pub node: Node,
+    pub copies: usize,
+}
 
 // The store as it is then, the conclusion's pattern, how many variables are numbered, and how many of the copies' are renamed; or the
 // words have no room.
@@ -42,7 +50,7 @@ fn prepare(work: &mut [u32], cells: &[u32], l: Layout, before: usize, g: Graph)
     clear(work, cells, t, g);
 }
 
-// Node `x` with all its variables numbered, then so many variables of copies; nodes from `before` on have no value.
+// The node wanted with all its variables numbered, then the variables of copies.
 pub fn read_back(
     pack: &[u8],
     work: &mut [u32],
@@ -51,15 +59,13 @@ pub fn read_back(
     c: Catalog,
     l: Layout,
     st: Store,
-    before: usize,
     g: Graph,
-    x: Node,
-    copies: usize,
+    w: Wanted,
 ) -> Back
-    requires { ⌜ Topping (now pack) (now work) (now words) (now cells) c l st before g (x .0) copies ⌝ }
-    ensures { λ r. ⌜ BackReads (now (pack .entry)) (now (work .entry)) (now (words .entry)) (now (work .exit)) (now (words .exit)) (now (cells .entry)) c l st before g (x .0) copies r ⌝ }
+    requires { ⌜ ToppingAt (now pack) (now work) (now words) (now cells) c l st g w ⌝ }
+    ensures { λ r. ⌜ BackReadsAt (now (pack .entry)) (now (work .entry)) (now (words .entry)) (now (work .exit)) (now (words .exit)) (now (cells .entry)) c l st g w r ⌝ }
 {
-    prepare(work, cells, l, before, g);
+    prepare(work, cells, l, w.before, g);
     let lifted = Lifted {
         at: l.lifted,
         nodes: l.nodes,
@@ -69,9 +75,16 @@ pub fn read_back(
         at: l.graph,
         end: l.end,
     };
-    match resolve(pack, work, words, cells, c, lifted, t, st, g, 0, true, x) {
+    let reading = Reading {
+        catalog: c,
+        lifted: lifted,
+        table: t,
+        graph: g,
+        everyone: true,
+    };
+    match resolve(pack, work, words, cells, reading, st, 0, w.node) {
         Resolved::Read(p, more, n) => {
-            match read_entries(pack, work, words, cells, c, l, more, g, n, copies) {
+            match read_entries(pack, work, words, cells, c, l, more, g, n, w.copies) {
                 Entries::Read(last, m, k) => Back::Read(last, p, m, k),
                 Entries::Short => Back::Short,
             }

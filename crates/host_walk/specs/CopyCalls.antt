@@ -39,6 +39,7 @@ use Rattle.term_readback.specs.Kept.{lifts-on}
 use Rattle.host_walk.specs.declared.answer.Walk.{Walk}
 use Rattle.host_walk.specs.declared.answer.Walk.the-variants.{Done, Refused}
 use Rattle.host_walk.specs.declared.copies.Times.the-variants.{Made, Short}
+use Rattle.host_walk.specs.declared.place.Stock.{Stock}
 use Rattle.host_walk.specs.declared.list.Listed.the-variants.{Whole, Broken as NoList, Full as NoRoom}
 use Rattle.host_walk.specs.Came.{done}
 use Rattle.host_walk.specs.Walks.{Walks}
@@ -84,6 +85,14 @@ abbrev pub Lasts : List ℕ → List ℕ → List ℕ → List ℕ → List ℕ 
 Lasts bytes work words words′ cells c l t st g x copies read w =
     (P : Pack) (h : Graph) → Lying bytes work words cells c l t st g P h → Walks words′ (lastRead P (nodes words st) (record { at = x; graph = h }) copies read (length words)) w
 
+-- the same of a stock
+abbrev pub LastOf : (bytes work words cells : List ℕ) (s : Stock) (t : Table) (g : Counts) (x copies : ℕ) → Type 0
+LastOf bytes work words cells s t g x copies = Last bytes work words cells (s .catalog) (s .lifted) t (s .store) g x copies
+
+-- and what is answered
+abbrev pub LastsOf : (bytes work words words′ cells : List ℕ) (s : Stock) (t : Table) (g : Counts) (x copies read : ℕ) → Walk → Type 0
+LastsOf bytes work words words′ cells s t g x copies read w = Lasts bytes work words words′ cells (s .catalog) (s .lifted) t (s .store) g x copies read w
+
 module _ (bytes work words cells : List ℕ) (c : Catalog) (l : Lifted) (t : Table) (st : Store) (g : Counts) (x copies read : ℕ) where
   -- nothing is read
   pub last-none : (eqb read 0 || eqb copies 0) ≡ true → (p : Pattern) → p .0 ≡ 0 → Lasts bytes work words words cells c l t st g x copies read (Done p st 0 (g .used))
@@ -115,6 +124,14 @@ pub record Copyable (bytes work words cells flex : List ℕ) (c : Catalog) (l : 
 abbrev pub Copied : List ℕ → List ℕ → List ℕ → List ℕ → List ℕ → ℕ → Catalog → Store → ℕ → ℕ → ℕ → Walk → Type 0
 Copied bytes work words words′ flex room c st p copies read w =
     (P : Pack) → Reads bytes (recordsOf work c) P → Proper P → Walks words′ (timesRead P (nodes words st) (copiedTimes copies (nodes words st) (marksIn flex) p) copies read (length words) room) w
+
+-- the same of a stock
+abbrev pub CopyableOf : (bytes work words cells flex : List ℕ) (s : Stock) (p : ℕ) → Type 0
+CopyableOf bytes work words cells flex s p = Copyable bytes work words cells flex (s .catalog) (s .lifted) (s .store) p
+
+-- and what is answered
+abbrev pub CopiedOf : (bytes work words words′ flex : List ℕ) (room : ℕ) (s : Stock) (p copies read : ℕ) → Walk → Type 0
+CopiedOf bytes work words words′ flex room s p copies read w = Copied bytes work words words′ flex room (s .catalog) (s .store) p copies read w
 
 module _ (bytes work words cells flex : List ℕ) (c : Catalog) (l : Lifted) (st : Store) (p : ℕ) (A : Copyable bytes work words cells flex c l st p) (k : Copying) (is : k ≡ copyingOf l (length words) (length cells) (length flex)) where
   -- it may be copied
@@ -195,6 +212,14 @@ pub record Stocked (bytes work words cells flex : List ℕ) (c : Catalog) (l : L
 abbrev pub FromStock : List ℕ → List ℕ → List ℕ → List ℕ → List ℕ → ℕ → Catalog → Store → ℕ → ℕ → ℕ → Walk → Type 0
 FromStock bytes work words words′ flex room c st p copies read w =
     (P : Pack) → Reads bytes (recordsOf work c) P → Proper P → Walks words′ (patternCopied P (nodes words st) flex p copies read (length words) room) w
+
+-- the same of a stock
+abbrev pub StockedOf : (bytes work words cells flex : List ℕ) (s : Stock) → Type 0
+StockedOf bytes work words cells flex s = Stocked bytes work words cells flex (s .catalog) (s .lifted) (s .store)
+
+-- and what is answered
+abbrev pub FromStockOf : (bytes work words words′ flex : List ℕ) (room : ℕ) (s : Stock) (p copies read : ℕ) → Walk → Type 0
+FromStockOf bytes work words words′ flex room s p copies read w = FromStock bytes work words words′ flex room (s .catalog) (s .store) p copies read w
 
 module _ (bytes work words cells flex : List ℕ) (c : Catalog) (l : Lifted) (st : Store) (B : Stocked bytes work words cells flex c l st) (p copies read : ℕ) where
   -- how many patterns there are

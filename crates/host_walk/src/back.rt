@@ -9,6 +9,7 @@ use term_lift::lift::Lifted;
 use term_readback::resolve::clear;
 use term_readback::resolve::resolve;
 use term_readback::root::Resolved;
+use term_readback::table::Reading;
 use term_readback::table::Table;
 ghost use Prim.Native.Nat.{_+_, _≤_, _<_};
 ghost use lib.ListN.{length};
@@ -43,7 +44,14 @@ pub fn read_back(
 {
     no_values(work, cells, t, g);
     clear(work, cells, t, g);
-    match resolve(pack, work, words, cells, c, l, t, st, g, 0, true, x) {
+    let reading = Reading {
+        catalog: c,
+        lifted: l,
+        table: t,
+        graph: g,
+        everyone: true,
+    };
+    match resolve(pack, work, words, cells, reading, st, 0, x) {
         Resolved::Read(p, more, n) => Walk::Done(p, more, n, g.used),
         Resolved::Short => Walk::Refused(8, 2),
     }

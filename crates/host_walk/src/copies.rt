@@ -5,6 +5,7 @@ use crate::answer::leave;
 use crate::back::read_back;
 use crate::list::Listed;
 use crate::list::read_list;
+use crate::place::Stock;
 use crate::place::lifting;
 use crate::place::open_store;
 use base::id::Node;
@@ -32,7 +33,7 @@ ghost use Rattle.host_walk.specs.Walks.{Walks};
 ghost use Rattle.host_walk.specs.Places.{Opened};
 ghost use Rattle.host_walk.specs.Copies.{packCopied, copyLeaves};
 ghost use Rattle.host_walk.specs.Times.{NewGraph, Started, Timed};
-ghost use Rattle.host_walk.specs.CopyCalls.{copyingOf, Small, Last, Lasts, Copyable, Copied as Copies, Stocked, FromStock, Marked, FromList, FromPack};
+ghost use Rattle.host_walk.specs.CopyCalls.{copyingOf, Small, LastOf, LastsOf, CopyableOf, CopiedOf, StockedOf, FromStockOf, Marked, FromList, FromPack};
 
 // The last copy's node and the graph, or that the cells have no room.
 pub enum Times {
@@ -111,25 +112,24 @@ fn read_last(
     work: &mut [u32],
     words: &mut [u32],
     cells: &[u32],
-    c: Catalog,
-    l: Lifted,
+    s: Stock,
     t: Table,
-    st: Store,
     g: Graph,
     x: Node,
     copies: u64,
     read: u64,
 ) -> Walk
-    requires { ⌜ Last (now pack) (now work) (now words) (now cells) c l t st g (x .0) copies ⌝ }
-    ensures { λ r. ⌜ Lasts (now (pack .entry)) (now (work .entry)) (now (words .entry)) (now (words .exit)) (now (cells .entry)) c l t st g (x .0) copies read r ⌝ }
+    requires { ⌜ LastOf (now pack) (now work) (now words) (now cells) s t g (x .0) copies ⌝ }
+    ensures { λ r. ⌜ LastsOf (now (pack .entry)) (now (work .entry)) (now (words .entry)) (now (words .exit)) (now (cells .entry)) s t g (x .0) copies read r ⌝ }
 {
+    let st = s.store;
     if read == 0 {
         return Walk::Done(Pattern(0), st, 0, g.used);
     }
     if copies == 0 {
         return Walk::Done(Pattern(0), st, 0, g.used);
     }
-    read_back(pack, work, words, cells, c, l, t, st, g, x)
+    read_back(pack, work, words, cells, s.catalog, s.lifted, t, st, g, x)
 }
 
 // Pattern `p` of the store is copied, and the last copy read back.
@@ -138,25 +138,23 @@ fn copies_in(
     work: &mut [u32],
     words: &mut [u32],
     cells: &mut [u32],
-    c: Catalog,
-    l: Lifted,
-    st: Store,
+    s: Stock,
     flex: &[u32],
     p: Pattern,
     copies: u64,
     read: u64,
 ) -> Walk
-    requires { ⌜ Copyable (now pack) (now work) (now words) (now cells) (now flex) c l st (p .0) ⌝ }
-    ensures { λ r. ⌜ Copies (now (pack .entry)) (now (work .entry)) (now (words .entry)) (now (words .exit)) (now (flex .entry)) (length (now (cells .entry))) c st (p .0) copies read r ⌝ }
+    requires { ⌜ CopyableOf (now pack) (now work) (now words) (now cells) (now flex) s (p .0) ⌝ }
+    ensures { λ r. ⌜ CopiedOf (now (pack .entry)) (now (work .entry)) (now (words .entry)) (now (words .exit)) (now (flex .entry)) (length (now (cells .entry))) s (p .0) copies read r ⌝ }
 {
-    let k = copying(l, words, cells, flex);
-    match copy_times(work, words, cells, k, st, flex, p, copies) {
+    let k = copying(s.lifted, words, cells, flex);
+    match copy_times(work, words, cells, k, s.store, flex, p, copies) {
         Times::Made(x, g) => {
             let t = Table {
                 at: k.graph,
                 end: k.end,
             };
-            read_last(pack, work, words, cells, c, l, t, st, g, x, copies, read)
+            read_last(pack, work, words, cells, s, t, g, x, copies, read)
         }
         Times::Short => Walk::Refused(8, 3),
     }
@@ -168,18 +166,16 @@ fn copy_from(
     work: &mut [u32],
     words: &mut [u32],
     cells: &mut [u32],
-    c: Catalog,
-    l: Lifted,
-    st: Store,
+    s: Stock,
     flex: &[u32],
     p: u64,
     copies: u64,
     read: u64,
 ) -> Walk
-    requires { ⌜ Stocked (now pack) (now work) (now words) (now cells) (now flex) c l st ⌝ }
-    ensures { λ r. ⌜ FromStock (now (pack .entry)) (now (work .entry)) (now (words .entry)) (now (words .exit)) (now (flex .entry)) (length (now (cells .entry))) c st p copies read r ⌝ }
+    requires { ⌜ StockedOf (now pack) (now work) (now words) (now cells) (now flex) s ⌝ }
+    ensures { λ r. ⌜ FromStockOf (now (pack .entry)) (now (work .entry)) (now (words .entry)) (now (words .exit)) (now (flex .entry)) (length (now (cells .entry))) s p copies read r ⌝ }
 {
-    if st.len as u64 <= p {
+    if s.store.len as u64 <= p {
         return Walk::Refused(12, 0);
     }
     copies_in(
@@ -187,9 +183,7 @@ fn copy_from(
         work,
         words,
         cells,
-        c,
-        l,
-        st,
+        s,
         flex,
         Pattern(p as u32),
         copies,
@@ -217,7 +211,12 @@ fn copy_listed(
     let empty = open_store(pack, work, words, c, l);
     match read_list(pack, from, work, words, c, l, empty) {
         Listed::Whole(st) => {
-            copy_from(pack, work, words, cells, c, l, st, flex, p, copies, read)
+            let stock = Stock {
+                catalog: c,
+                lifted: l,
+                store: st,
+            };
+            copy_from(pack, work, words, cells, stock, flex, p, copies, read)
         }
         Listed::Broken => Walk::Refused(12, 0),
         Listed::Full => Walk::Refused(8, 2),

@@ -7,6 +7,13 @@ ghost use lib.ListN.{length};
 ghost use Rattle.pack_read.specs.Held.{Held};
 ghost use Rattle.host_walk.specs.Places.{Sized, Lays, Stores};
 
+// A store of patterns, with the pack's tables and lifting's.
+pub struct Stock {
+    pub catalog: Catalog,
+    pub lifted: Lifted,
+    pub store: Store,
+}
+
 // Lifting's words stand behind the pack's tables and the marks of its cuts, with the store's index behind them.
 pub fn lifting(work: &[u32], words: &[u32], c: Catalog) -> Lifted
     requires { ⌜ Sized (now work) (length (now words)) c ⌝ }

@@ -6,5 +6,6 @@ pub mod Pushes
 pub mod Taking
 pub mod Meets
 pub mod Takes
+pub mod AtHand
 pub mod Matches
 pub mod Begins

@@ -1,5 +1,6 @@
 // A pattern of the store against a ground node by a worklist: each application of the store is matched once.
 use crate::tables::Instance;
+use crate::tables::Test;
 use crate::tables::put_pair;
 use base::id::Ground;
 use base::id::Pattern;
@@ -20,8 +21,7 @@ ghost use Rattle.store.specs.Stored.{nodes};
 ghost use Rattle.term_instance.specs.Held.{Given};
 ghost use Rattle.term_instance.specs.Pushes.{Pushable, Pushes};
 ghost use Rattle.term_instance.specs.Binds.{Bindable, Binds};
-ghost use Rattle.term_instance.specs.Meets.{Takes, Applied, Bare};
-ghost use Rattle.term_instance.specs.Takes.{Ready, TakesPair};
+ghost use Rattle.term_instance.specs.AtHand.{AppliedAt, BareAt, TakesAt, ReadyAt, TakesPairAt};
 ghost use Rattle.term_instance.specs.Matches.{Matches};
 
 // The node is an instance, with the two memos as they are then; or it is none.
@@ -88,32 +88,39 @@ fn descend(
     pack: &[u8],
     work: &mut [u32],
     words: &[u32],
-    c: Catalog,
-    l: Instance,
-    st: Store,
-    seen: Memo,
-    values: Memo,
+    s: Test,
     top: usize,
     p: Pattern,
     n: Ground,
     head: u32,
 ) -> Turn
-    requires { ⌜ Bare (now pack) (now work) (now words) c l st seen values top (p .0) (n .0) head ⌝ }
-    ensures { λ t. ⌜ Takes (now (pack .entry)) (now (work .entry)) (now (work .exit)) (now (words .entry)) c l st seen values top (p .0) (n .0) t ⌝ }
+    requires { ⌜ BareAt (now pack) (now work) (now words) s top (p .0) (n .0) head ⌝ }
+    ensures { λ t. ⌜ TakesAt (now (pack .entry)) (now (work .entry)) (now (work .exit)) (now (words .entry)) s top (p .0) (n .0) t ⌝ }
 {
-    if node_head(pack, work, c, n) != head {
+    if node_head(pack, work, s.catalog, n) != head {
         return Turn::Unlike;
     }
-    let a = l.index;
-    let e = l.pairs;
-    let k = st.arity(&work[a..e], words, p);
-    if node_arity(pack, work, c, n) != k {
+    let a = s.tables.index;
+    let e = s.tables.pairs;
+    let k = s.store.arity(&work[a..e], words, p);
+    if node_arity(pack, work, s.catalog, n) != k {
         return Turn::Unlike;
     }
-    let from = l.seen;
-    let to = l.values;
-    put(work, from, to, seen, p.0 as usize, n.0);
-    Turn::On(push_arguments(pack, work, words, c, l, st, top, p, n, k))
+    let from = s.tables.seen;
+    let to = s.tables.values;
+    put(work, from, to, s.seen, p.0 as usize, n.0);
+    Turn::On(push_arguments(
+        pack,
+        work,
+        words,
+        s.catalog,
+        s.tables,
+        s.store,
+        top,
+        p,
+        n,
+        k,
+    ))
 }
 
 // Application `p` was seen with `n`, or is matched with it.
@@ -121,22 +128,18 @@ fn meet(
     pack: &[u8],
     work: &mut [u32],
     words: &[u32],
-    c: Catalog,
-    l: Instance,
-    st: Store,
-    seen: Memo,
-    values: Memo,
+    s: Test,
     top: usize,
     p: Pattern,
     n: Ground,
     head: u32,
 ) -> Turn
-    requires { ⌜ Applied (now pack) (now work) (now words) c l st seen values top (p .0) (n .0) head ⌝ }
-    ensures { λ t. ⌜ Takes (now (pack .entry)) (now (work .entry)) (now (work .exit)) (now (words .entry)) c l st seen values top (p .0) (n .0) t ⌝ }
+    requires { ⌜ AppliedAt (now pack) (now work) (now words) s top (p .0) (n .0) head ⌝ }
+    ensures { λ t. ⌜ TakesAt (now (pack .entry)) (now (work .entry)) (now (work .exit)) (now (words .entry)) s top (p .0) (n .0) t ⌝ }
 {
-    let from = l.seen;
-    let to = l.values;
-    match get(work, from, to, seen, p.0 as usize) {
+    let from = s.tables.seen;
+    let to = s.tables.values;
+    match get(work, from, to, s.seen, p.0 as usize) {
         Known::Value(m) => {
             if m == n.0 {
                 return Turn::On(top);
@@ -144,40 +147,30 @@ fn meet(
             return Turn::Unlike;
         }
         Known::Nothing => {
-            return descend(pack, work, words, c, l, st, seen, values, top, p, n, head);
+            return descend(pack, work, words, s, top, p, n, head);
         }
     }
 }
 
 // The pair behind `top` others is taken.
-fn take_pair(
-    pack: &[u8],
-    work: &mut [u32],
-    words: &[u32],
-    c: Catalog,
-    l: Instance,
-    st: Store,
-    seen: Memo,
-    values: Memo,
-    top: usize,
-) -> Turn
-    requires { ⌜ Ready (now pack) (now work) (now words) c l st seen values top ⌝ }
-    ensures { λ t. ⌜ TakesPair (now (pack .entry)) (now (work .entry)) (now (work .exit)) (now (words .entry)) c l st seen values top t ⌝ }
+fn take_pair(pack: &[u8], work: &mut [u32], words: &[u32], s: Test, top: usize) -> Turn
+    requires { ⌜ ReadyAt (now pack) (now work) (now words) s top ⌝ }
+    ensures { λ t. ⌜ TakesPairAt (now (pack .entry)) (now (work .entry)) (now (work .exit)) (now (words .entry)) s top t ⌝ }
 {
-    let at = l.pairs + 2 * top;
+    let at = s.tables.pairs + 2 * top;
     let p = Pattern(work[at]);
     let n = Ground(work[at + 1]);
-    let a = l.index;
-    let e = l.pairs;
-    let head = st.head(&work[a..e], words, p);
+    let a = s.tables.index;
+    let e = s.tables.pairs;
+    let head = s.store.head(&work[a..e], words, p);
     if head == Pattern::VAR {
-        let k = st.argument(&work[a..e], words, p, 0);
-        if bind(work, l, values, k, n) {
+        let k = s.store.argument(&work[a..e], words, p, 0);
+        if bind(work, s.tables, s.values, k, n) {
             return Turn::On(top);
         }
         return Turn::Unlike;
     }
-    meet(pack, work, words, c, l, st, seen, values, top, p, n, head)
+    meet(pack, work, words, s, top, p, n, head)
 }
 
 // Whether ground node `n` is an instance of pattern `p`, and the values of its variables.
@@ -202,9 +195,16 @@ pub fn instance(
     let fresh = clear(work, a, b, seen);
     let bare = clear(work, b, e, values);
     put_pair(work, l, 0, p, n);
+    let s = Test {
+        catalog: c,
+        tables: l,
+        store: st,
+        seen: fresh,
+        values: bare,
+    };
     let mut top: usize = 1;
     while 0 < top {
-        match take_pair(pack, work, words, c, l, st, fresh, bare, top - 1) {
+        match take_pair(pack, work, words, s, top - 1) {
             Turn::On(more) => {
                 top = more;
             }

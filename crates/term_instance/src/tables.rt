@@ -1,6 +1,9 @@
 // Where the instance test has its tables, and the worklist's pairs.
 use base::id::Ground;
 use base::id::Pattern;
+use memo::memo::Memo;
+use pack_tables::catalog::Catalog;
+use store::nodes::Store;
 ghost use mathlib.Core.Path.{_≡_};
 ghost use Prim.Native.Nat.{_+_, _*_, _<_};
 ghost use lib.ListN.{length, set};
@@ -13,6 +16,16 @@ pub struct Instance {
     pub seen: usize,
     pub values: usize,
     pub end: usize,
+}
+
+// What the instance test has at hand: the pack's tables, its own, the store, and the memos of what pattern nodes were matched with and of
+// variables' values.
+pub struct Test {
+    pub catalog: Catalog,
+    pub tables: Instance,
+    pub store: Store,
+    pub seen: Memo,
+    pub values: Memo,
 }
 
 // Pattern `p` and ground node `n` are put behind `top` other pairs.

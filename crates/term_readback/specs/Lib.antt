@@ -18,3 +18,5 @@ pub mod Turned
 pub mod Measure
 pub mod Runs
 pub mod Starts
+-- The same by what reading back has at hand.
+pub mod AtHand

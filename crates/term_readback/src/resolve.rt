@@ -1,6 +1,7 @@
 // Graph terms read back as patterns, arguments first: a walk by a stack that reads each root once.
 use crate::root::Resolved;
 use crate::root::read_root;
+use crate::table::Reading;
 use crate::table::Table;
 use crate::table::argument_root;
 use crate::table::count;
@@ -10,17 +11,16 @@ use base::id::Node;
 use base::id::Pattern;
 use buffer::zero::zero_words;
 use graph::graph::Graph;
-use pack_tables::catalog::Catalog;
 use store::nodes::Store;
-use term_lift::lift::Lifted;
 ghost use mathlib.Core.Path.{_≡_};
 ghost use Prim.Native.Nat.{_+_, _<_, _≤_};
 ghost use lib.Dec.{eqb, ltb};
 ghost use lib.ListN.{length, getD};
 ghost use Rattle.definition.specs.Test.{_and_};
-ghost use Rattle.term_readback.specs.Words.{patternsAt, tableEnd, tableIn, Ready};
+ghost use Rattle.term_readback.specs.Words.{patternsAt, tableEnd, tableIn};
 ghost use Rattle.term_readback.specs.Asked.{Asking};
-ghost use Rattle.term_readback.specs.Stacks.{Entering, Enters, Begins, Turning, Advances, Clears, Answers};
+ghost use Rattle.term_readback.specs.Stacks.{Entering, Enters, Begins, Clears};
+ghost use Rattle.term_readback.specs.AtHand.{ReadyAt, TurningAt, AdvancesAt, AnswersAt};
 
 // So many frames stand on the stack, the store as it is then, and so many variables are numbered; or there is no room for a node.
 enum Turn {
@@ -82,42 +82,25 @@ fn advance(
     work: &mut [u32],
     words: &mut [u32],
     cells: &[u32],
-    c: Catalog,
-    l: Lifted,
-    t: Table,
+    s: Reading,
     st: Store,
-    g: Graph,
     numbered: usize,
-    everyone: bool,
     top: usize,
 ) -> Turn
-    requires { ⌜ Turning (now pack) (now work) (now words) (now cells) c l t st g numbered everyone top ⌝ }
-    ensures { λ r. ⌜ Advances (now (pack .entry)) (now (work .entry)) (now (words .entry)) (now (work .exit)) (now (words .exit)) (now (cells .entry)) c l t st g numbered everyone top r ⌝ }
+    requires { ⌜ TurningAt (now pack) (now work) (now words) (now cells) s st numbered top ⌝ }
+    ensures { λ r. ⌜ AdvancesAt (now (pack .entry)) (now (work .entry)) (now (words .entry)) (now (work .exit)) (now (words .exit)) (now (cells .entry)) s st numbered top r ⌝ }
 {
     let at = 5 * cells.len() + 5 + 2 * top;
-    let x = Node(word_at(work, t, at));
-    let taken = word_at(work, t, at + 1);
-    if passes(work, cells, t, x, taken) {
+    let x = Node(word_at(work, s.table, at));
+    let taken = word_at(work, s.table, at + 1);
+    if passes(work, cells, s.table, x, taken) {
         return Turn::On(top, st, numbered);
     }
-    if (taken as usize) < count(work, cells, t, g, x) {
-        enter(work, cells, t, g, top, x, taken);
+    if (taken as usize) < count(work, cells, s.table, s.graph, x) {
+        enter(work, cells, s.table, s.graph, top, x, taken);
         return Turn::On(top + 2, st, numbered);
     }
-    match read_root(
-        pack,
-        work,
-        words,
-        cells,
-        c,
-        l,
-        t,
-        st,
-        g,
-        numbered,
-        everyone,
-        x,
-    ) {
+    match read_root(pack, work, words, cells, s, st, numbered, x) {
         Resolved::Read(_, more, n) => Turn::On(top, more, n),
         Resolved::Short => Turn::Short,
     }
@@ -129,37 +112,20 @@ pub fn resolve(
     work: &mut [u32],
     words: &mut [u32],
     cells: &[u32],
-    c: Catalog,
-    l: Lifted,
-    t: Table,
+    s: Reading,
     st: Store,
-    g: Graph,
     numbered: usize,
-    everyone: bool,
     x: Node,
 ) -> Resolved
-    requires { ⌜ Ready (now pack) (now work) (now words) (now cells) c l t st g numbered everyone × (x .0 < g .nodes) ⌝ }
-    ensures { λ r. ⌜ Answers (now (pack .entry)) (now (work .entry)) (now (words .entry)) (now (work .exit)) (now (words .exit)) (now (cells .entry)) c l t st g numbered everyone (x .0) r ⌝ }
+    requires { ⌜ ReadyAt (now pack) (now work) (now words) (now cells) s st numbered × (x .0 < s .graph .nodes) ⌝ }
+    ensures { λ r. ⌜ AnswersAt (now (pack .entry)) (now (work .entry)) (now (words .entry)) (now (work .exit)) (now (words .exit)) (now (cells .entry)) s st numbered (x .0) r ⌝ }
 {
-    let r = begin(work, cells, t, g, x);
+    let r = begin(work, cells, s.table, s.graph, x);
     let mut top: usize = 1;
     let mut grown = st;
     let mut n = numbered;
     while 0 < top {
-        match advance(
-            pack,
-            work,
-            words,
-            cells,
-            c,
-            l,
-            t,
-            grown,
-            g,
-            n,
-            everyone,
-            top - 1,
-        ) {
+        match advance(pack, work, words, cells, s, grown, n, top - 1) {
             Turn::On(left, more, m) => {
                 top = left;
                 grown = more;
@@ -170,6 +136,6 @@ pub fn resolve(
             }
         }
     }
-    let word = word_at(work, t, 9 * cells.len() + 7 + r.0 as usize);
+    let word = word_at(work, s.table, 9 * cells.len() + 7 + r.0 as usize);
     Resolved::Read(Pattern(word - 1), grown, n)
 }

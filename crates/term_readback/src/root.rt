@@ -1,4 +1,5 @@
 // One root read back whose arguments' roots were: a variable by its number or its ground value, an application over its arguments.
+use crate::table::Reading;
 use crate::table::Table;
 use crate::table::intern_key;
 use crate::table::key_of;
@@ -16,7 +17,8 @@ use store::nodes::Interned;
 use store::nodes::Store;
 use term_lift::lift::Lifted;
 use term_lift::lift::lift;
-ghost use Rattle.term_readback.specs.Roots.{Opening, Variable, Any, Gives, Naming, Names, Valuing, Values, Applying, Applies, Notes};
+ghost use Rattle.term_readback.specs.Roots.{Variable, Any, Naming, Names, Valuing, Values, Applying, Applies};
+ghost use Rattle.term_readback.specs.AtHand.{OpeningAt, GivesAt, NotesAt};
 
 // What was read: the pattern, the store with it, and how many variables are numbered; or that the words have no room.
 pub enum Resolved {
@@ -84,22 +86,39 @@ fn read_variable(
     work: &mut [u32],
     words: &mut [u32],
     cells: &[u32],
-    c: Catalog,
-    l: Lifted,
-    t: Table,
+    s: Reading,
     st: Store,
-    g: Graph,
     numbered: usize,
-    everyone: bool,
     x: Node,
 ) -> Resolved
-    requires { ⌜ Opening (now pack) (now work) (now words) (now cells) c l t st g numbered everyone (x .0) (Variable (x .0)) ⌝ }
-    ensures { λ r. ⌜ Gives (now (pack .entry)) (now (work .entry)) (now (words .entry)) (now (work .exit)) (now (words .exit)) (now (cells .entry)) c l t st g numbered everyone (x .0) (Variable (x .0)) r ⌝ }
+    requires { ⌜ OpeningAt (now pack) (now work) (now words) (now cells) s st numbered (x .0) (Variable (x .0)) ⌝ }
+    ensures { λ r. ⌜ GivesAt (now (pack .entry)) (now (work .entry)) (now (words .entry)) (now (work .exit)) (now (words .exit)) (now (cells .entry)) s st numbered (x .0) (Variable (x .0)) r ⌝ }
 {
-    if numbers(work, cells, t, g, x, everyone) {
-        return read_number(work, words, cells, l, t, st, g, numbered, x);
+    if numbers(work, cells, s.table, s.graph, x, s.everyone) {
+        return read_number(
+            work,
+            words,
+            cells,
+            s.lifted,
+            s.table,
+            st,
+            s.graph,
+            numbered,
+            x,
+        );
     }
-    read_value(pack, work, words, cells, c, l, t, st, numbered, x)
+    read_value(
+        pack,
+        work,
+        words,
+        cells,
+        s.catalog,
+        s.lifted,
+        s.table,
+        st,
+        numbered,
+        x,
+    )
 }
 
 // Application `x` over what its arguments' roots were read back as.
@@ -131,37 +150,30 @@ fn read_either(
     work: &mut [u32],
     words: &mut [u32],
     cells: &[u32],
-    c: Catalog,
-    l: Lifted,
-    t: Table,
+    s: Reading,
     st: Store,
-    g: Graph,
     numbered: usize,
-    everyone: bool,
     x: Node,
 ) -> Resolved
-    requires { ⌜ Opening (now pack) (now work) (now words) (now cells) c l t st g numbered everyone (x .0) Any ⌝ }
-    ensures { λ r. ⌜ Gives (now (pack .entry)) (now (work .entry)) (now (words .entry)) (now (work .exit)) (now (words .exit)) (now (cells .entry)) c l t st g numbered everyone (x .0) Any r ⌝ }
+    requires { ⌜ OpeningAt (now pack) (now work) (now words) (now cells) s st numbered (x .0) Any ⌝ }
+    ensures { λ r. ⌜ GivesAt (now (pack .entry)) (now (work .entry)) (now (words .entry)) (now (work .exit)) (now (words .exit)) (now (cells .entry)) s st numbered (x .0) Any r ⌝ }
 {
-    let a = t.at;
-    let e = t.end;
-    if g.head(cells, &work[a..e], x) == Pattern::VAR {
-        return read_variable(
-            pack,
-            work,
-            words,
-            cells,
-            c,
-            l,
-            t,
-            st,
-            g,
-            numbered,
-            everyone,
-            x,
-        );
+    let a = s.table.at;
+    let e = s.table.end;
+    if s.graph.head(cells, &work[a..e], x) == Pattern::VAR {
+        return read_variable(pack, work, words, cells, s, st, numbered, x);
     }
-    read_applied(work, words, cells, l, t, st, g, numbered, x)
+    read_applied(
+        work,
+        words,
+        cells,
+        s.lifted,
+        s.table,
+        st,
+        s.graph,
+        numbered,
+        x,
+    )
 }
 
 // Root `x` is read back and has its pattern's word from then on.
@@ -170,34 +182,17 @@ pub fn read_root(
     work: &mut [u32],
     words: &mut [u32],
     cells: &[u32],
-    c: Catalog,
-    l: Lifted,
-    t: Table,
+    s: Reading,
     st: Store,
-    g: Graph,
     numbered: usize,
-    everyone: bool,
     x: Node,
 ) -> Resolved
-    requires { ⌜ Opening (now pack) (now work) (now words) (now cells) c l t st g numbered everyone (x .0) Any ⌝ }
-    ensures { λ r. ⌜ Notes (now (pack .entry)) (now (work .entry)) (now (words .entry)) (now (work .exit)) (now (words .exit)) (now (cells .entry)) c l t st g numbered everyone (x .0) r ⌝ }
+    requires { ⌜ OpeningAt (now pack) (now work) (now words) (now cells) s st numbered (x .0) Any ⌝ }
+    ensures { λ r. ⌜ NotesAt (now (pack .entry)) (now (work .entry)) (now (words .entry)) (now (work .exit)) (now (words .exit)) (now (cells .entry)) s st numbered (x .0) r ⌝ }
 {
-    match read_either(
-        pack,
-        work,
-        words,
-        cells,
-        c,
-        l,
-        t,
-        st,
-        g,
-        numbered,
-        everyone,
-        x,
-    ) {
+    match read_either(pack, work, words, cells, s, st, numbered, x) {
         Resolved::Read(p, more, n) => {
-            put_word(work, t, 9 * cells.len() + 7 + x.0 as usize, p.0 + 1);
+            put_word(work, s.table, 9 * cells.len() + 7 + x.0 as usize, p.0 + 1);
             Resolved::Read(p, more, n)
         }
         Resolved::Short => Resolved::Short,

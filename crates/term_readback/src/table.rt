@@ -2,6 +2,7 @@
 use base::id::Node;
 use base::id::Pattern;
 use graph::graph::Graph;
+use pack_tables::catalog::Catalog;
 use store::nodes::Interned;
 use store::nodes::Store;
 use term_lift::lift::Lifted;
@@ -18,6 +19,16 @@ ghost use Rattle.term_readback.specs.Keys.{Ripe, Keyed};
 pub struct Table {
     pub at: usize,
     pub end: usize,
+}
+
+// What reading back has at hand: where the pack's tables, lifting's and the graph's stand, the graph, and whether all its variables get a
+// number.
+pub struct Reading {
+    pub catalog: Catalog,
+    pub lifted: Lifted,
+    pub table: Table,
+    pub graph: Graph,
+    pub everyone: bool,
 }
 
 // Word `i` of the table.

@@ -22,8 +22,8 @@ read-top-spec =
     count-fixed-requires
     (λ c. search needs)
     (λ c. search needs)
-    (λ c. search needs)
+    (λ c. search)
     returns
-    (λ c. search needs)
-    (λ c. search needs)
+    (λ c. search)
+    (λ c. search)
     returns-2)

@@ -57,5 +57,5 @@ read-back-spec =
     same-length-4
     returns-2
     same-length-5
-    (λ c. search needs)
+    (λ c. search)
     returns-3)

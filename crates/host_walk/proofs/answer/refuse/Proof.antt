@@ -8,4 +8,4 @@ returns : tie.Need-returns
 returns c = told-refused _ _ _ _ (c .before .before .zero-words .ensures)
 
 pub refuse-spec : {M : Type 1} → statement M
-refuse-spec = tie.close (tie.spec (λ c κs. search needs) (λ c. search needs) returns)
+refuse-spec = tie.close (tie.spec (λ c κs. search needs) (λ c. search) returns)

@@ -21,7 +21,7 @@ tell-spec =
     finish-requires
     (λ c. search needs)
     (λ c κs. search needs)
-    (λ c. search needs)
+    (λ c. search)
     returns
-    (λ c. search needs)
+    (λ c. search)
     returns-2)

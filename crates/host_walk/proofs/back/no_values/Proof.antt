@@ -24,5 +24,5 @@ no-values-spec =
     (λ c. search needs)
     (λ c. search needs)
     (λ c κs. search needs)
-    (λ c. search needs)
+    (λ c. search)
     returns)

@@ -30,8 +30,8 @@ read-back-spec =
     (λ c. search needs)
     (λ c. search needs)
     (λ c. search needs)
-    (λ c. search needs)
+    (λ c. search)
     returns
     (λ c. search needs)
-    (λ c. search needs)
+    (λ c. search)
     returns-2)

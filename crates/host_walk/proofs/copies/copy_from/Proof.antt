@@ -7,8 +7,8 @@ use Rattle.host_walk.proofs.copies.copy_from.Tie as tie
 returns : tie.Need-returns
 returns c = let s = c .before .before .before .before .before .before in stock-refused _ _ _ _ _ _ _ _ (s .pre) (s .args .p) (s .args .copies) (s .args .read) (c .if1 .taken)
 
-cast-t20 : tie.Need-cast-t20
-cast-t20 c = let s = c .before .before .before .before .before .before .before .before .before in record { fits = stock-word _ _ _ _ _ _ _ _ (s .pre) (s .args .p) (s .args .copies) (s .args .read) (c .before .before .before .if1 .left) }
+cast-t18 : tie.Need-cast-t18
+cast-t18 c = let s = c .before .before .before .before .before .before .before .before .before in record { fits = stock-word _ _ _ _ _ _ _ _ (s .pre) (s .args .p) (s .args .copies) (s .args .read) (c .before .before .before .if1 .left) }
 
 copies-in-requires : tie.Need-copies-in-requires
 copies-in-requires c κs = let s = c .before .before .before .before .before .before .before .before .before in stock-copyable _ _ _ _ _ _ _ _ (s .pre) (s .args .p) (s .args .copies) (s .args .read) (c .before .before .before .if1 .left)
@@ -21,9 +21,9 @@ copy-from-spec =
     tie.close
     (tie.spec
     returns
-    cast-t20
+    cast-t18
     copies-in-requires
-    (λ c. search needs)
-    (λ c. search needs)
-    (λ c. search needs)
+    (λ c. search)
+    (λ c. search)
+    (λ c. search)
     returns-2)

@@ -21,7 +21,7 @@ copy-marked-spec =
     returns
     (λ c κs. search needs)
     copy-listed-requires
-    (λ c. search needs)
-    (λ c. search needs)
-    (λ c. search needs)
+    (λ c. search)
+    (λ c. search)
+    (λ c. search)
     returns-2)

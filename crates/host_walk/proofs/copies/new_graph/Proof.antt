@@ -11,4 +11,4 @@ returns c = let s = c .before .before .before .before .before .before in new-gra
 pub new-graph-spec : {M : Type 1} → statement M
 new-graph-spec =
     tie.close
-    (tie.spec (λ c. search needs) (λ c. search needs) (λ c. search needs) (λ c. search needs) (λ c κs. search needs) (λ c. search needs) returns)
+    (tie.spec (λ c. search needs) (λ c. search needs) (λ c. search needs) (λ c. search needs) (λ c κs. search needs) (λ c. search) returns)

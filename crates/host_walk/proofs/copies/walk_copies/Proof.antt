@@ -23,9 +23,9 @@ walk-copies-spec =
     copy-marked-requires
     (λ c. search needs)
     (λ c κs. search needs)
-    (λ c. search needs)
-    (λ c. search needs)
+    (λ c. search)
+    (λ c. search)
     (λ c. search needs)
     returns
-    (λ c. search needs)
+    (λ c. search)
     returns-2)

@@ -19,5 +19,5 @@ open-store-spec =
     (λ c. search needs)
     (λ c κs. search needs)
     (λ c κs. search needs)
-    (λ c. search needs)
+    (λ c. search)
     returns)

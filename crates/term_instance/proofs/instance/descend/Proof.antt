@@ -53,7 +53,7 @@ descend-spec =
     tie.close
     (tie.spec
     node-head-requires
-    (λ c. search needs)
+    (λ c. search)
     returns
     (λ c. search needs)
     (λ c. search needs)
@@ -61,7 +61,7 @@ descend-spec =
     (λ c. search needs)
     arity-requires
     node-arity-requires
-    (λ c. search needs)
+    (λ c. search)
     returns-2
     (λ c. search needs)
     put-requires

@@ -9,10 +9,10 @@ use Rattle.term_instance.proofs.instance.instance.Statement.{statement}
 use Rattle.term_instance.proofs.instance.instance.Tie as tie
 
 abbrev Inv-loop : tie.InvT-loop
-Inv-loop pack work₀ words c l st a b e fresh bare top₀ work top = Going pack work₀ work words c l st fresh bare top
+Inv-loop pack work₀ words a b e fresh bare s top₀ work top = Going pack work₀ work words (s .catalog) (s .tables) (s .store) (s .seen) (s .values) top
 
 abbrev μ-loop : tie.MeasureT-loop
-μ-loop pack work₀ words c l st a b e fresh bare top₀ work top = top + leftIn words work l st fresh
+μ-loop pack work₀ words a b e fresh bare s top₀ work top = top + leftIn words work (s .tables) (s .store) (s .seen)
 
 clear-requires : tie.Need-clear-requires Inv-loop μ-loop
 clear-requires c κs = let H = c .before .before .before .before .pre .0 in (omega (arith, H .table), omega (arith, H .order, H .fits), H .seen-kept)

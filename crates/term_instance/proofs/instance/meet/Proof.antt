@@ -26,11 +26,11 @@ meet-spec =
     (λ c. search needs)
     get-requires
     (λ c. search needs)
-    (λ c. search needs)
+    (λ c. search)
     returns
-    (λ c. search needs)
+    (λ c. search)
     returns-2
     (λ c. search needs)
     descend-requires
-    (λ c. search needs)
+    (λ c. search)
     returns-3)

@@ -76,5 +76,5 @@ push-arguments-spec =
     add-on
     (λ c. search needs)
     loop-again
-    (λ c. search needs)
+    (λ c. search)
     returns)

@@ -60,10 +60,10 @@ take-pair-spec =
     (λ c. let Q = c .before .before .before .before .before .before .before .before .before .before .before .pre in omega (arith, Q .given .index, ready-inside _ _ _ _ _ _ _ _ _ Q))
     argument-requires
     bind-requires
-    (λ c. search needs)
+    (λ c. search)
     returns
-    (λ c. search needs)
+    (λ c. search)
     returns-2
     meet-requires
-    (λ c. search needs)
+    (λ c. search)
     returns-3)

@@ -32,8 +32,8 @@ count-requires c κs = at-asking _ _ _ _ _ _ _ _ _ _ _ _ (c .before .before .bef
 enter-requires : tie.Need-enter-requires
 enter-requires c κs = at-entering _ _ _ _ _ _ _ _ _ _ _ _ (c .before .before .before .before .before .before .before .before .before .before .before .before .before .before .before .pre) _ _ (c .before .before .before .before .before .before .before .before .before .word-at .ensures) (c .before .before .before .before .before .before .before .word-at2 .ensures) (c .before .before .before .before .before .passes .result) (c .before .before .before .before .before .passes .ensures) (c .before .before .before .before .if1 .left) (c .before .before .count .result) (c .before .before .count .ensures) (c .before .if2 .taken)
 
-add-t36 : tie.Need-add-t36
-add-t36 c = omega (arith, turning-top _ _ _ _ _ _ _ _ _ _ _ _ (c .before .before .before .before .before .before .before .before .before .before .before .before .before .before .before .before .before .before .pre), turning-small _ _ _ _ _ _ _ _ _ _ _ _ (c .before .before .before .before .before .before .before .before .before .before .before .before .before .before .before .before .before .before .pre))
+add-t32 : tie.Need-add-t32
+add-t32 c = omega (arith, turning-top _ _ _ _ _ _ _ _ _ _ _ _ (c .before .before .before .before .before .before .before .before .before .before .before .before .before .before .before .before .before .before .pre), turning-small _ _ _ _ _ _ _ _ _ _ _ _ (c .before .before .before .before .before .before .before .before .before .before .before .before .before .before .before .before .before .before .pre))
 
 returns-2 : tie.Need-returns-2
 returns-2 c = at-entered _ _ _ _ _ _ _ _ _ _ _ _ (c .before .before .before .before .before .before .before .before .before .before .before .before .before .before .before .before .before .before .pre) _ _ (c .before .before .before .before .before .before .before .before .before .before .before .before .word-at .ensures) (c .before .before .before .before .before .before .before .before .before .before .word-at2 .ensures) (c .before .before .before .before .before .before .before .before .passes .result) (c .before .before .before .before .before .before .before .before .passes .ensures) (c .before .before .before .before .before .before .before .if1 .left) (c .before .before .before .before .before .count .result) (c .before .before .before .before .before .count .ensures) (c .before .before .before .before .if2 .taken) (c .before .before .enter .last .0) (c .before .before .enter .ensures)
@@ -59,20 +59,20 @@ advance-spec =
     add-word-at
     word-at-requires-2
     passes-requires
-    (λ c. search needs)
+    (λ c. search)
     returns
     (λ c. search needs)
     count-requires
     enter-requires
-    add-t36
-    (λ c. search needs)
+    add-t32
+    (λ c. search)
     returns-2
     read-root-requires
     (λ c. search needs)
     (λ c. search needs)
-    (λ c. search needs)
-    (λ c. search needs)
+    (λ c. search)
+    (λ c. search)
     returns-3
-    (λ c. search needs)
-    (λ c. search needs)
+    (λ c. search)
+    (λ c. search)
     returns-4)

@@ -20,5 +20,5 @@ clear-spec =
     (λ c. search needs)
     (λ c. search needs)
     (λ c κs. search needs)
-    (λ c. search needs)
+    (λ c. search)
     returns)

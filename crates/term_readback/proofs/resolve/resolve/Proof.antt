@@ -11,10 +11,10 @@ use Rattle.term_readback.proofs.resolve.resolve.Statement.{statement}
 use Rattle.term_readback.proofs.resolve.resolve.Tie as tie
 
 abbrev Inv-loop : tie.InvT-loop
-Inv-loop pack work₀ words₀ cells c l t g numbered everyone r top₀ grown₀ n₀ work words top grown n = (length work ≡ length work₀) × (length words ≡ length words₀) × Walks pack work₀ words₀ work words cells c l t grown₀ grown g n₀ n everyone (r .0) top
+Inv-loop pack work₀ words₀ cells s numbered r top₀ grown₀ n₀ work words top grown n = (length work ≡ length work₀) × (length words ≡ length words₀) × Walks pack work₀ words₀ work words cells (s .catalog) (s .lifted) (s .table) grown₀ grown (s .graph) n₀ n (s .everyone) (r .0) top
 
 abbrev μ-loop : tie.MeasureT-loop
-μ-loop pack work₀ words₀ cells c l t g numbered everyone r top₀ grown₀ n₀ work words top grown n = turnsIn cells (tableIn t work) g top
+μ-loop pack work₀ words₀ cells s numbered r top₀ grown₀ n₀ work words top grown n = turnsIn cells (tableIn (s .table) work) (s .graph) top
 
 begin-requires : tie.Need-begin-requires Inv-loop μ-loop
 begin-requires c κs = first-asking _ _ _ _ _ _ _ _ _ _ _ _ (c .before .before .before .before .before .pre .0) (c .before .before .before .before .before .pre .1)
@@ -49,8 +49,8 @@ add-word-at-2 c = let h = done-there _ _ _ _ _ _ _ _ _ _ _ _ (first-ready _ _ _ 
 word-at-requires : tie.Need-word-at-requires Inv-loop μ-loop
 word-at-requires c κs = done-there _ _ _ _ _ _ _ _ _ _ _ _ (first-ready _ _ _ _ _ _ _ _ _ _ _ _ (c .before .before .before .before .before .before .before .before .before .before .before .before .pre .0) (c .before .before .before .before .before .before .before .before .before .before .before .before .pre .1) _ _ (c .before .before .before .before .before .before .begin .ensures)) (first-low _ _ _ _ _ _ _ _ _ _ _ _ (c .before .before .before .before .before .before .before .before .before .before .before .before .pre .0) (c .before .before .before .before .before .before .before .before .before .before .before .before .pre .1) _ _ (c .before .before .before .before .before .before .begin .ensures)) _ _ _ _ (walks-none _ _ _ _ _ _ _ _ _ _ _ _ _ _ _ _ _ (c .before .before .loop-test .left) (c .before .before .before .loop .inv .2)) (c .before .before .before .before .before .before .begin .ensures .node)
 
-sub-t37 : tie.Need-sub-t37 Inv-loop μ-loop
-sub-t37 c = done-some _ _ _ _ _ _ _ _ _ _ _ _ (first-ready _ _ _ _ _ _ _ _ _ _ _ _ (c .before .before .before .before .before .before .before .before .before .before .before .before .before .pre .0) (c .before .before .before .before .before .before .before .before .before .before .before .before .before .pre .1) _ _ (c .before .before .before .before .before .before .before .begin .ensures)) (first-low _ _ _ _ _ _ _ _ _ _ _ _ (c .before .before .before .before .before .before .before .before .before .before .before .before .before .pre .0) (c .before .before .before .before .before .before .before .before .before .before .before .before .before .pre .1) _ _ (c .before .before .before .before .before .before .before .begin .ensures)) _ _ _ _ (walks-none _ _ _ _ _ _ _ _ _ _ _ _ _ _ _ _ _ (c .before .before .before .loop-test .left) (c .before .before .before .before .loop .inv .2)) (c .before .before .before .before .before .before .before .begin .ensures .node) _ (c .word-at .ensures)
+sub-t33 : tie.Need-sub-t33 Inv-loop μ-loop
+sub-t33 c = done-some _ _ _ _ _ _ _ _ _ _ _ _ (first-ready _ _ _ _ _ _ _ _ _ _ _ _ (c .before .before .before .before .before .before .before .before .before .before .before .before .before .pre .0) (c .before .before .before .before .before .before .before .before .before .before .before .before .before .pre .1) _ _ (c .before .before .before .before .before .before .before .begin .ensures)) (first-low _ _ _ _ _ _ _ _ _ _ _ _ (c .before .before .before .before .before .before .before .before .before .before .before .before .before .pre .0) (c .before .before .before .before .before .before .before .before .before .before .before .before .before .pre .1) _ _ (c .before .before .before .before .before .before .before .begin .ensures)) _ _ _ _ (walks-none _ _ _ _ _ _ _ _ _ _ _ _ _ _ _ _ _ (c .before .before .before .loop-test .left) (c .before .before .before .before .loop .inv .2)) (c .before .before .before .before .before .before .before .begin .ensures .node) _ (c .word-at .ensures)
 
 same-length-3 : tie.Need-same-length-3 Inv-loop μ-loop
 same-length-3 c = c .before .before .before .before .loop .inv .0 ∙ c .before .before .before .before .before .before .before .begin .kept .0
@@ -83,7 +83,7 @@ resolve-spec =
     (λ c. search needs)
     add-word-at-2
     word-at-requires
-    sub-t37
+    sub-t33
     same-length-3
     same-length-4
     returns-2)

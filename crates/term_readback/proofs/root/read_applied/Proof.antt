@@ -31,8 +31,8 @@ read-applied-spec =
     (λ c. search needs)
     (λ c. search needs)
     (λ c. search needs)
-    (λ c. search needs)
+    (λ c. search)
     returns
     (λ c. search needs)
-    (λ c. search needs)
+    (λ c. search)
     returns-2)

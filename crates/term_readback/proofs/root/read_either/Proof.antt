@@ -16,7 +16,7 @@ returns : tie.Need-returns
 returns c = let K = c .before .before .before .before .before .before .before .before .before .before .before .before .before .before .before .pre in gives-so _ _ _ _ _ _ _ _ _ _ _ _ _ K (Variable (c .before .before .before .before .before .before .before .before .before .before .before .before .before .before .before .args .x .0)) (λ h S v. head-variable h _ (c .before .before .before .before .before .before .before .before .head .result) (c .before .before .before .before .before .before .before .before .head .ensures h S) (c .before .before .before .before .before .before .before .if1 .taken)) (c .before .before .before .before .read-variable .last .1 .0) (c .before .before .before .before .read-variable .last .1 .1 .0) (c .before .before .before .before .read-variable .result) (c .before .before .before .before .read-variable .ensures)
 
 read-applied-requires : tie.Need-read-applied-requires
-read-applied-requires c κs = let K = c .before .before .before .before .before .before .before .before .before .before .pre in record { bytes = c .before .before .before .before .before .before .before .before .before .before .args .pack .now; catalog = c .before .before .before .before .before .before .before .before .before .before .args .c; everyone = c .before .before .before .before .before .before .before .before .before .before .args .everyone; opening = opening-so _ _ _ _ _ _ _ _ _ _ _ _ _ K _ (head-other (K .graph) _ (c .before .before .before .head .result) (c .before .before .before .head .ensures (K .graph) (K .holding .lies .stands .shows)) (c .before .before .if1 .left)) }
+read-applied-requires c κs = let K = c .before .before .before .before .before .before .before .before .before .before .pre in record { bytes = c .before .before .before .before .before .before .before .before .before .before .args .pack .now; catalog = c .before .before .before .before .before .before .before .before .before .before .args .s .catalog; everyone = c .before .before .before .before .before .before .before .before .before .before .args .s .everyone; opening = opening-so _ _ _ _ _ _ _ _ _ _ _ _ _ K _ (head-other (K .graph) _ (c .before .before .before .head .result) (c .before .before .before .head .ensures (K .graph) (K .holding .lies .stands .shows)) (c .before .before .if1 .left)) }
 
 returns-2 : tie.Need-returns-2
 returns-2 c = let K = c .before .before .before .before .before .before .before .before .before .before .before .before .before .before .before .pre in gives-so _ _ _ _ _ _ _ _ _ _ _ _ _ K (Applied (c .before .before .before .before .before .before .before .before .before .before .before .before .before .before .before .args .x .0)) (λ h S v. head-other h _ (c .before .before .before .before .before .before .before .before .head .result) (c .before .before .before .before .before .before .before .before .head .ensures h S) (c .before .before .before .before .before .before .before .if1 .left)) (c .before .before .before .before .read-applied .last .0) (c .before .before .before .before .read-applied .last .1 .0) (c .before .before .before .before .read-applied .result) (c .before .before .before .before .read-applied .ensures _ _ _ (opening-so _ _ _ _ _ _ _ _ _ _ _ _ _ K _ (head-other (K .graph) _ (c .before .before .before .before .before .before .before .before .head .result) (c .before .before .before .before .before .before .before .before .head .ensures (K .graph) (K .holding .lies .stands .shows)) (c .before .before .before .before .before .before .before .if1 .left))))
@@ -31,10 +31,10 @@ read-either-spec =
     (λ c. search needs)
     head-requires
     read-variable-requires
-    (λ c. search needs)
-    (λ c. search needs)
+    (λ c. search)
+    (λ c. search)
     returns
     read-applied-requires
-    (λ c. search needs)
-    (λ c. search needs)
+    (λ c. search)
+    (λ c. search)
     returns-2)

@@ -27,5 +27,5 @@ argument-root-spec =
     (λ c. search needs)
     (λ c. search needs)
     find-requires
-    (λ c. search needs)
+    (λ c. search)
     returns)

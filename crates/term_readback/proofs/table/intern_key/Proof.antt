@@ -24,6 +24,6 @@ intern-key-spec =
     (λ c. search needs)
     (λ c. search needs)
     intern-requires
-    (λ c. search needs)
-    (λ c. search needs)
+    (λ c. search)
+    (λ c. search)
     returns)
