@@ -1,6 +1,5 @@
 -- `copy_from` meets its contract.
 use Rattle.host_walk.specs.CopyCalls.{stock-refused, stock-copyable, stock-copied, stock-word}
-use borrow.Author.Needs.{needs}
 use Rattle.host_walk.proofs.copies.copy_from.Statement.{statement}
 use Rattle.host_walk.proofs.copies.copy_from.Tie as tie
 

@@ -2,7 +2,6 @@
 use mathlib.Core.Path.{refl}
 use native.Mathlib.Omega.{arith}
 use Rattle.host_walk.specs.CopyCalls.{last-none, unasked, uncopied, last-read}
-use borrow.Author.Needs.{needs}
 use Rattle.host_walk.proofs.copies.read_last.Statement.{statement}
 use Rattle.host_walk.proofs.copies.read_last.Tie as tie
 

@@ -1,5 +1,4 @@
 -- `read_variable` meets its contract.
-use borrow.Author.Needs.{needs}
 use mathlib.Core.Path.{sym, _∙_}
 use Rattle.term_readback.specs.Ways.{opening-asking, opening-so, gives-so}
 use Rattle.term_readback.specs.Roots.{Named, Fixed}
