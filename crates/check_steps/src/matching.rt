@@ -47,7 +47,7 @@ fn match_turn(
         Popped::Word(n, rest) => {
             let w = rule_word(pack, work, c, r, vars, i);
             if Prefix::VAR <= w {
-                if bind(values, (w - Prefix::VAR) as usize, n) {
+                if bind(values, (w - Prefix::VAR) as usize, Ground(n)) {
                     return Turn::Next(rest);
                 }
                 return Turn::Fails;

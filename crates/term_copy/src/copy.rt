@@ -175,7 +175,7 @@ pub fn copy(
 {
     let fresh = begin(work, l, memo, flex, p);
     match run(work, words, cells, l, st, fresh, g, flex) {
-        Turn::On(_, h) => Copied::At(Node(copy_of(work, l, fresh, p.0)), h, fresh),
+        Turn::On(_, h) => Copied::At(copy_of(work, l, fresh, p), h, fresh),
         Turn::Short => Copied::Short,
     }
 }

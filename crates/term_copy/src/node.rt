@@ -30,16 +30,16 @@ pub struct Copying {
     pub end: usize,
 }
 
-// What pattern `q` was copied to, or 0.
-pub fn copy_of(work: &[u32], l: Copying, memo: Memo, q: u32) -> u32
-    requires { ⌜ (l .copied ≤ l .walk) × (l .walk ≤ length (now work)) × (q < length (recall (tableIn (now work) l) memo)) ⌝ }
-    ensures { λ r. ⌜ r ≡ copyIn (now (work .entry)) l memo q ⌝ }
+// What pattern `q` was copied to, or node 0.
+pub fn copy_of(work: &[u32], l: Copying, memo: Memo, q: Pattern) -> Node
+    requires { ⌜ (l .copied ≤ l .walk) × (l .walk ≤ length (now work)) × (q .0 < length (recall (tableIn (now work) l) memo)) ⌝ }
+    ensures { λ r. ⌜ r .0 ≡ copyIn (now (work .entry)) l memo (q .0) ⌝ }
 {
     let from = l.copied;
     let to = l.walk;
-    match memo.get(&work[from..to], q as usize) {
-        Known::Value(v) => v,
-        Known::Nothing => 0,
+    match memo.get(&work[from..to], q.0 as usize) {
+        Known::Value(v) => Node(v),
+        Known::Nothing => Node(0),
     }
 }
 
@@ -51,7 +51,7 @@ fn gather(work: &[u32], l: Copying, memo: Memo, key: &[u32], args: &mut [u32])
     let n = key.len() - 1;
     let mut i: usize = 0;
     while i < n {
-        args[i] = copy_of(work, l, memo, key[i + 1]);
+        args[i] = copy_of(work, l, memo, Pattern(key[i + 1])).0;
         i += 1;
     }
 }

@@ -6,13 +6,13 @@ use Rattle.check_steps.proofs.values.bind.Tie as tie
 
 returns : tie.Need-returns
 returns c =
-    let s = c .before .before in
-    bind-first (s .args .values .now) (s .args .k) (s .args .n) (s .pre .0) (c .if1 .taken)
+    let s = c .before .before .before in
+    bind-first (s .args .values .now) (s .args .k) (s .args .n .0) (s .pre .0) (c .before .if1 .taken)
 
 returns-2 : tie.Need-returns-2
 returns-2 c =
-    let s = c .before .before in
-    bind-again (s .args .values .now) (s .args .k) (s .args .n) (c .if1 .left)
+    let s = c .before .before .before in
+    bind-again (s .args .values .now) (s .args .k) (s .args .n .0) (c .before .if1 .left)
 
 pub bind-spec : {M : Type 1} → statement M
 bind-spec =

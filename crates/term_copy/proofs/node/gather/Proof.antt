@@ -29,7 +29,7 @@ loop-again : tie.Need-loop-again Inv-loop μ-loop
 loop-again c =
     let g = c .before .before .before .loop in
     let s = c .before .before .before .before .before .before .before in
-    (length-set (g .args) (g .i) (c .copy-of .result) ∙ g .inv .0, search needs, gather-more (copyIn (s .args .work .now) (s .args .l) (s .args .memo)) (s .args .key .now) (g .args) (g .i) (c .copy-of .result) (omega arith) (omega (arith, g .inv .0, s .pre .3, s .pre .2 .few)) (c .copy-of .ensures) (g .inv .2))
+    (length-set (g .args) (g .i) (c .copy-of .result .0) ∙ g .inv .0, search needs, gather-more (copyIn (s .args .work .now) (s .args .l) (s .args .memo)) (s .args .key .now) (g .args) (g .i) (c .copy-of .result .0) (omega arith) (omega (arith, g .inv .0, s .pre .3, s .pre .2 .few)) (c .copy-of .ensures) (g .inv .2))
 
 same-length : tie.Need-same-length Inv-loop μ-loop
 same-length c = c .before .loop .inv .0
