@@ -21,7 +21,6 @@ is-pattern-spec =
     (tie.spec
     (λ c. search needs)
     returns
-    (λ c. search needs)
     returns-2
     (λ c. search needs)
     (λ c. search needs)
