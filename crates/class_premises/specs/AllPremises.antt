@@ -12,7 +12,7 @@ use Rattle.definition.specs.Answer.{Lent}
 use Rattle.definition.specs.Run.{outcome}
 use Rattle.definition.specs.Graph.{Graph}
 use Rattle.definition.specs.Classes.{Built, Premises, takePremises}
-use Rattle.definition.specs.declared.Refusal.the-variants.{Clash as Clashes, Short as TooShort}
+use Rattle.definition.specs.declared.Refusal.{Refusal}
 use Rattle.base.specs.Outside.{Outside, outside-none, outside-then}
 use Rattle.base.specs.declared.id.Node.{Node}
 use Rattle.memo.specs.declared.memo.Memo.{Memo}
@@ -22,11 +22,14 @@ use Rattle.graph.specs.declared.graph.Graph.{Graph as Counts}
 use Rattle.class_keys.specs.declared.classes.Keying.{Keying}
 use Rattle.class_keys.specs.declared.classes.Counts.{Counts as KeyCounts}
 use Rattle.class_premises.specs.declared.layout.Layout.{Layout}
+use Rattle.class_premises.specs.declared.building.Building.{Building}
+use Rattle.class_premises.specs.declared.premise.Reached.{Reached}
 use Rattle.class_premises.specs.declared.premise.Taken.the-variants as taken
 use Rattle.theory.specs.Making.Runs.{outcome-return-end}
 use Rattle.class_premises.specs.declared.premises.Ruling.{Ruling}
 use Rattle.class_premises.specs.declared.premises.Premised.{Premised}
-use Rattle.class_premises.specs.declared.premises.Premised.the-variants.{On, Clash, Short}
+use Rattle.class_premises.specs.declared.premises.Premised.the-variants.{On, Refused}
+use Rattle.class_premises.specs.Buffers.{Buffers}
 use Rattle.class_premises.specs.Given.{refsOf, takes}
 use Rattle.class_premises.specs.Next.{Here, Nexting, Nexts}
 
@@ -80,13 +83,19 @@ Whatever bytes work class words cells c k l st memo g env u F =
 
 -- what is answered
 abbrev pub TakesAll : List ℕ → List ℕ → List ℕ → List ℕ → List ℕ → List ℕ → List ℕ → Catalog → Keying → Layout → Store → Memo → Counts → List ℕ → Ruling → List ℕ → Premised → Type 0
-TakesAll bytes work work′ class words cells cells′ c k l st memo g env u instances′ (On g′ memo′ from copies) =
+TakesAll bytes work work′ class words cells cells′ c k l st memo g env u instances′ (On t) =
     Outside (l .copied) (l .end) work work′
-    × Whatever bytes work class words cells c k l st memo g env u (λ r fill P b h. Done bytes work′ class words cells cells′ c k l r st memo′ fill g′ env u instances′ from copies P b h)
-TakesAll bytes work work′ class words cells cells′ c k l st memo g env u instances′ Clash =
-    Whatever bytes work class words cells c k l st memo g env u (λ r fill P b h. (L : Lent) → L .graph ≡ length cells → outcome L (takes P b u (allOf P u) (refsOf P u) (start h)) ≡ refuse (Clashes (u .step)))
-TakesAll bytes work work′ class words cells cells′ c k l st memo g env u instances′ Short =
-    Whatever bytes work class words cells c k l st memo g env u (λ r fill P b h. (L : Lent) → L .graph ≡ length cells → outcome L (takes P b u (allOf P u) (refsOf P u) (start h)) ≡ refuse (TooShort 3))
+    × Whatever bytes work class words cells c k l st memo g env u (λ r fill P b h. Done bytes work′ class words cells cells′ c k l r st (t .memo) fill (t .graph) env u instances′ (t .from) (t .copies) P b h)
+TakesAll bytes work work′ class words cells cells′ c k l st memo g env u instances′ (Refused z) =
+    Whatever bytes work class words cells c k l st memo g env u (λ r fill P b h. (L : Lent) → L .graph ≡ length cells → outcome L (takes P b u (allOf P u) (refsOf P u) (start h)) ≡ refuse z)
+
+-- both of buffers that are lent and what is at hand
+abbrev pub StartingIn : Buffers → Building → Counts → List ℕ → Ruling → List ℕ → Type 0
+StartingIn B s g env u instances = Starting (B .pack) (B .work) (B .class) (B .pattern) (B .graph) (s .catalog) (s .keying) (s .layout) (s .store) (s .memo) g env u instances
+
+abbrev pub TakesAllIn : Buffers → Buffers → Building → Counts → List ℕ → Ruling → List ℕ → Premised → Type 0
+TakesAllIn B B′ s g env u instances′ r =
+    TakesAll (B .pack) (B .work) (B′ .work) (B .class) (B .pattern) (B .graph) (B′ .graph) (s .catalog) (s .keying) (s .layout) (s .store) (s .memo) g env u instances′ r
 
 -- ---- the loop
 -- i premises are taken
@@ -135,10 +144,10 @@ module _ (bytes before class words cells₀ : List ℕ) (c : Catalog) (k : Keyin
   refs-many r fill P b h B =
       length-map (stepOf P (u .step) .refs) _ ∙ B .standing .proper .good .steps (u .step) (B .ruled .step) .refs ∙ ap (λ (n : ℕ). count (ruleOf P n .premises)) (sym (B .ruled .rule)) ∙ sym (B .ruled .premises)
 
-  pub going-on : i < u .premises → (work′ cells′ : List ℕ) (g′ : Counts) (memo′ : Memo) (x : Node) (to copies′ : ℕ) → length cells′ ≡ length cells
-      → Nexts bytes work work′ class words cells cells′ c k l st memo g env u i from copies (taken.On g′ memo′ x to copies′)
-      → Going bytes before work′ class words cells₀ cells′ c k l st memo₀ memo′ g₀ g′ env u instances₀ (set instances i (x .0)) (i + 1) to copies′
-  going-on more work′ cells′ g′ memo′ x to copies′ long N = record {
+  pub going-on : i < u .premises → (work′ cells′ : List ℕ) (t : Reached) (x : Node) → length cells′ ≡ length cells
+      → Nexts bytes work work′ class words cells cells′ c k l st memo g env u i from copies (taken.On t x)
+      → Going bytes before work′ class words cells₀ cells′ c k l st memo₀ (t .memo) g₀ (t .graph) env u instances₀ (set instances i (x .0)) (i + 1) (t .from) (t .copies)
+  going-on more work′ cells′ t x long N = record {
     outside = outside-then (l .copied) (l .end) before work work′ (G .outside) (N .0);
     many = long ∙ G .many;
     long = length-set instances i (x .0) ∙ G .long;
@@ -148,7 +157,7 @@ module _ (bytes before class words cells₀ : List ℕ) (c : Catalog) (k : Keyin
         let X = N .1 r fill P b (M .terms) (M .refs) (M .state) (M .here) in
         let one : i + 1 ≡ suc i = omega arith in
         let q = refs-many r fill P b h B in
-        subst (λ (j : ℕ). Mid bytes work′ class words cells₀ cells′ c k l r st memo′ fill g′ env u (set instances i (x .0)) j to copies′ P b h) (sym one) (record {
+        subst (λ (j : ℕ). Mid bytes work′ class words cells₀ cells′ c k l r st (t .memo) fill (t .graph) env u (set instances i (x .0)) j (t .from) (t .copies) P b h) (sym one) (record {
           terms = X .terms;
           refs = X .refs′;
           state = X .state;
@@ -159,11 +168,8 @@ module _ (bytes before class words cells₀ : List ℕ) (c : Catalog) (k : Keyin
         });
   }
 
-  pub going-clash : (work′ cells′ : List ℕ) → Nexts bytes work work′ class words cells cells′ c k l st memo g env u i from copies taken.Clash → TakesAll bytes before work′ class words cells₀ cells′ c k l st memo₀ g₀ env u instances Clash
-  going-clash work′ cells′ N r fill P b h B L e = let M = G .state r fill P b h B in sym (M .same L e) ∙ N r fill P b (M .terms) (M .refs) (M .state) (M .here) L (e ∙ sym (G .many))
-
-  pub going-short : (work′ cells′ : List ℕ) → Nexts bytes work work′ class words cells cells′ c k l st memo g env u i from copies taken.Short → TakesAll bytes before work′ class words cells₀ cells′ c k l st memo₀ g₀ env u instances Short
-  going-short work′ cells′ N r fill P b h B L e = let M = G .state r fill P b h B in sym (M .same L e) ∙ N r fill P b (M .terms) (M .refs) (M .state) (M .here) L (e ∙ sym (G .many))
+  pub going-refused : (work′ cells′ : List ℕ) (z : Refusal) → Nexts bytes work work′ class words cells cells′ c k l st memo g env u i from copies (taken.Refused z) → TakesAll bytes before work′ class words cells₀ cells′ c k l st memo₀ g₀ env u instances (Refused z)
+  going-refused work′ cells′ z N r fill P b h B L e = let M = G .state r fill P b h B in sym (M .same L e) ∙ N r fill P b (M .terms) (M .refs) (M .state) (M .here) L (e ∙ sym (G .many))
 
   -- no term is left
   none-left : (ts : Terms) → count ts ≡ 0 → ts ≡ nil
@@ -171,7 +177,7 @@ module _ (bytes before class words cells₀ : List ℕ) (c : Catalog) (k : Keyin
   none-left nil e = refl
   none-left (cons t ts) e = absurd (omega arith)
 
-  pub going-done : u .premises ≤ i → TakesAll bytes before work class words cells₀ cells c k l st memo₀ g₀ env u instances (On g memo from copies)
+  pub going-done : u .premises ≤ i → TakesAll bytes before work class words cells₀ cells c k l st memo₀ g₀ env u instances (On (record { graph = g; memo = memo; from = from; copies = copies }))
   unfolding takePremises
   going-done h = (
     G .outside,

@@ -21,9 +21,9 @@ use Rattle.class_premises.specs.Takes.{Taking, TakesTo}
 use Rattle.class_premises.specs.declared.layout.Layout.{Layout}
 use Rattle.class_premises.specs.declared.premise.Premise.{Premise}
 use Rattle.class_premises.specs.declared.premise.Taken.{Taken}
-use Rattle.class_premises.specs.declared.premise.Taken.the-variants.{On, Clash, Short}
+use Rattle.class_premises.specs.declared.premise.Taken.the-variants.{On, Refused}
 use Rattle.class_premises.specs.declared.premises.Ruling.{Ruling}
-use Rattle.class_premises.specs.Next.{Here, Nexting, Nexts, ref-there, ref-record, step-there, word-there, place-there, next-taking, row-read, next-short, next-clash, next-on}
+use Rattle.class_premises.specs.Next.{Here, Nexting, Nexts, ref-there, ref-record, step-there, word-there, place-there, next-taking, row-read, next-refused, next-on}
 
 module _ (bytes work class words cells : List ℕ) (c : Catalog) (k : Keying) (l : Layout) (st : Store) (memo : Memo) (g : Counts) (env : List ℕ) (u : Ruling) (i from copies : ℕ)
     (N : Nexting bytes work class words cells c k l st memo g env u i from copies) where
@@ -66,7 +66,7 @@ module _ (bytes work class words cells : List ℕ) (c : Catalog) (k : Keying) (l
 
       -- the premise with a row
       abbrev with : ℕ → Premise
-      with row = record { rule = u .rule; vars = u .vars; row = row; from = from; copies = copies }
+      with row = record { step = u .step; rule = u .rule; vars = u .vars; row = row; from = from; copies = copies }
 
       pub premise-asked : Taking bytes work class words cells c l st memo g env (with (getD work (l .rows + getD class f 0) 0))
       premise-asked =
@@ -77,16 +77,14 @@ module _ (bytes work class words cells : List ℕ) (c : Catalog) (k : Keying) (l
       -- what it comes to
       pub premise-says : (work′ cells′ : List ℕ) (t : Taken) → length cells′ ≡ length cells → TakesTo bytes work work′ class words cells cells′ c l st g env (with (getD work (l .rows + getD class f 0) 0)) t
           → Nexts bytes work work′ class words cells cells′ c k l st memo g env u i from copies t
-      premise-says work′ cells′ (On g′ memo′ x to copies′) long T = (
+      premise-says work′ cells′ (On t x) long T = (
         T .0,
         λ r fill P b ts refs ps H.
             let e = row-read bytes work class words cells c k l r st memo fill g env u i from copies P b ts refs ps H (N .more) f (first-is r fill P b ts refs ps H) in
-            next-on bytes work class words cells c k l r st memo fill g env u i from copies P b ts refs ps H (N .more) work′ cells′ g′ memo′ x to copies′ long
-            (subst (λ (n : ℕ). TakesTo bytes work work′ class words cells cells′ c l st g env (with n) (On g′ memo′ x to copies′)) e T),
+            next-on bytes work class words cells c k l r st memo fill g env u i from copies P b ts refs ps H (N .more) work′ cells′ t x long
+            (subst (λ (n : ℕ). TakesTo bytes work work′ class words cells cells′ c l st g env (with n) (On t x)) e T),
       )
-      premise-says work′ cells′ Clash long T = λ r fill P b ts refs ps H.
+      premise-says work′ cells′ (Refused z) long T = λ r fill P b ts refs ps H.
           let e = row-read bytes work class words cells c k l r st memo fill g env u i from copies P b ts refs ps H (N .more) f (first-is r fill P b ts refs ps H) in
-          next-clash bytes work class words cells c k l r st memo fill g env u i from copies P b ts refs ps H (N .more) work′ cells′ (subst (λ (n : ℕ). TakesTo bytes work work′ class words cells cells′ c l st g env (with n) Clash) e T)
-      premise-says work′ cells′ Short long T = λ r fill P b ts refs ps H.
-          let e = row-read bytes work class words cells c k l r st memo fill g env u i from copies P b ts refs ps H (N .more) f (first-is r fill P b ts refs ps H) in
-          next-short bytes work class words cells c k l r st memo fill g env u i from copies P b ts refs ps H (N .more) work′ cells′ (subst (λ (n : ℕ). TakesTo bytes work work′ class words cells cells′ c l st g env (with n) Short) e T)
+          next-refused bytes work class words cells c k l r st memo fill g env u i from copies P b ts refs ps H (N .more) work′ cells′ z
+          (subst (λ (n : ℕ). TakesTo bytes work work′ class words cells cells′ c l st g env (with n) (Refused z)) e T)

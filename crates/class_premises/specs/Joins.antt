@@ -9,7 +9,7 @@ use Rattle.definition.specs.Graph.{Graph, Unified, unify}
 use Rattle.base.specs.Lent.{back as lent-back, back-first, back-outside as lent-outside}
 use Rattle.base.specs.Part.{part, put, part-at, length-part, part-put-before}
 use Rattle.base.specs.Outside.{Outside, outside-then, outside-wider, part-behind}
-use Rattle.memo.specs.declared.memo.Memo.{Memo}
+use Rattle.definition.specs.declared.Refusal.the-variants.{Clash as Clashes}
 use Rattle.graph.specs.declared.graph.Graph.{Graph as Counts}
 use Rattle.graph_unify.specs.declared.unify.Outcome.the-variants.{Joined, Clash as Unlike}
 use Rattle.graph.specs.Cells.{rowsEnd, Shows, SameRows, shows-rows, Unchanged}
@@ -18,8 +18,10 @@ use Rattle.theory.specs.Unification.Inner.{Inner}
 use Rattle.graph.specs.Inner.{HoldsInner}
 use Rattle.graph_unify.specs.Unifies.{Unifies}
 use Rattle.class_premises.specs.declared.layout.Layout.{Layout}
+use Rattle.class_premises.specs.declared.premise.Premise.{Premise}
+use Rattle.class_premises.specs.declared.premise.Fresh.{Fresh}
 use Rattle.class_premises.specs.declared.premise.Taken.{Taken}
-use Rattle.class_premises.specs.declared.premise.Taken.the-variants.{On, Clash, Short}
+use Rattle.class_premises.specs.declared.premise.Taken.the-variants.{On, Refused}
 use Rattle.class_premises.specs.Layout.{tableIn, copiesAt, copiesEnd}
 use Rattle.class_premises.specs.Noted.{said, Room, Notes}
 
@@ -50,12 +52,11 @@ pub record Noted (work work′ cells : List ℕ) (l : Layout) (n copies k : ℕ)
   pub many : k ≡ copies + length (said (variablesIn work l n))
 
 -- what is answered: the two unified in whatever graph is held, and the variables noted; or that they clash
-abbrev pub JoinsTo : List ℕ → List ℕ → List ℕ → Layout → Counts → Memo → ℕ → ℕ → ℕ → ℕ → ℕ → Taken → Type 0
-JoinsTo work work′ cells l g memo x y n to copies (On g′ memo′ z to′ k) =
-    (g′ ≡ g) × (memo′ ≡ memo) × (z .0 ≡ x) × (to′ ≡ to) × Noted work work′ cells l n copies k
-    × ((h : Graph) → Shows cells (tableIn work l) g h → Inner h → (h′ : Graph) × (unify h x y .graph ≡ some h′) × Shows cells (tableIn work′ l) g h′ × Inner h′)
-JoinsTo work work′ cells l g memo x y n to copies Clash = (h : Graph) → Shows cells (tableIn work l) g h → Inner h → unify h x y .graph ≡ none
-JoinsTo work work′ cells l g memo x y n to copies Short = ⊥
+abbrev pub JoinsTo : List ℕ → List ℕ → List ℕ → Layout → Counts → Premise → Fresh → ℕ → ℕ → Taken → Type 0
+JoinsTo work work′ cells l g p f x to (On t z) =
+    (t .graph ≡ g) × (t .memo ≡ f .memo) × (z .0 ≡ x) × (t .from ≡ to) × Noted work work′ cells l (f .variables) (p .copies) (t .copies)
+    × ((h : Graph) → Shows cells (tableIn work l) g h → Inner h → (h′ : Graph) × (unify h x (f .node .0) .graph ≡ some h′) × Shows cells (tableIn work′ l) g h′ × Inner h′)
+JoinsTo work work′ cells l g p f x to (Refused z) = (z ≡ Clashes (p .step)) × ((h : Graph) → Shows cells (tableIn work l) g h → Inner h → unify h x (f .node .0) .graph ≡ none)
 
 -- rows that stand ahead of what was written are as they were
 pub rows-outside : (work work′ cells : List ℕ) (l : Layout) (a e : ℕ) → Outside a e work work′ → l .graph + rowsEnd cells ≤ a → l .graph + rowsEnd cells ≤ l .end → l .end ≤ length work → SameRows cells (tableIn work l) (tableIn work′ l)

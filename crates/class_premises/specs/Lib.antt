@@ -1,5 +1,7 @@
--- What one premise makes of the term graph.
+-- The buffers that are lent, and the places in work.
+pub mod Buffers
 pub mod Layout
+-- What one premise makes of the term graph.
 pub mod Noted
 pub mod Joins
 pub mod Meets

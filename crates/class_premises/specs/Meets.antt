@@ -1,5 +1,6 @@
 -- A premise's instance put into the graph and unified with a copy.
 use mathlib.Core.Path.{_≡_, refl, sym, ap, ap₂, _∙_, subst}
+use mathlib.Core.Logic.{_⊎_, inl, inr}
 use mathlib.Core.List.{List, [], _∷_, _++_}
 use mathlib.Core.Option.{none, some}
 use Prim.Native.Nat.{ℕ, _+_, _*_, _≤_, _<_}
@@ -12,10 +13,10 @@ use Rattle.definition.specs.Graph.{Graph, applied, push, Unified, unify, cells 
 use Rattle.definition.specs.Analysis.{instantiate, instantiateAll}
 use Rattle.definition.specs.Laws.Prefix.{termWords, termsWords}
 use Rattle.definition.specs.Laws.Suffix.{all-words}
+use Rattle.definition.specs.declared.Refusal.the-variants.{Clash as Clashes, Short as TooShort}
 use Rattle.base.specs.Part.{part}
 use Rattle.base.specs.Outside.{Outside, outside-then, outside-wider, part-ahead, part-behind}
 use Rattle.base.specs.declared.id.Node.{Node}
-use Rattle.memo.specs.declared.memo.Memo.{Memo}
 use Rattle.pack_tables.specs.SameTables.{endOf}
 use Rattle.pack_tables.specs.Catalog.{recordsOf}
 use Rattle.pack_tables.specs.declared.catalog.Catalog.{Catalog}
@@ -31,8 +32,9 @@ use Rattle.graph.specs.Inner.{many-nodes}
 use Rattle.term_instantiate.specs.Building.{Spells, Asked, Instantiates}
 use Rattle.class_premises.specs.declared.layout.Layout.{Layout}
 use Rattle.class_premises.specs.declared.premise.Premise.{Premise}
+use Rattle.class_premises.specs.declared.premise.Fresh.{Fresh}
 use Rattle.class_premises.specs.declared.premise.Taken.{Taken}
-use Rattle.class_premises.specs.declared.premise.Taken.the-variants.{On, Clash, Short}
+use Rattle.class_premises.specs.declared.premise.Taken.the-variants.{On, Refused}
 use Rattle.class_premises.specs.Layout.{placeOf, tableIn, copiesAt, copiesEnd}
 use Rattle.class_premises.specs.Noted.{said}
 use Rattle.class_premises.specs.Joins.{variablesIn, copiesIn, Joining, Noted, JoinsTo}
@@ -42,10 +44,10 @@ abbrev pub SpellsAt : Pack → Premise → Term → Type 0
 SpellsAt P p t = Spells P (p .rule) (p .vars) (p .from) (p .from + length (termWords t)) t
 
 -- what is asked: a pack held, one of its terms, a graph that has the rule's variables and the copy, and room for the variables that its words say
-pub record Meeting (bytes work cells : List ℕ) (c : Catalog) (l : Layout) (g : Counts) (env : List ℕ) (p : Premise) (y n : ℕ) : Type 0 where
+pub record Meeting (bytes work cells : List ℕ) (c : Catalog) (l : Layout) (g : Counts) (env : List ℕ) (p : Premise) (f : Fresh) : Type 0 where
   pub held : Held bytes work c
   pub behind : endOf c ≤ l .graph
-  pub variables : l .variables + n ≤ l .graph
+  pub variables : l .variables + f .variables ≤ l .graph
   pub table : l .graph + copiesEnd cells ≤ l .end
   pub inside : l .end ≤ length work
   pub term : Term
@@ -55,8 +57,8 @@ pub record Meeting (bytes work cells : List ℕ) (c : Catalog) (l : Layout) (g :
   pub inner : Inner graph
   pub nodes : Below (length graph) env
   pub env-long : p .vars ≤ length env
-  pub right : y < g .nodes
-  pub room : p .copies + length (said (variablesIn work l n)) ≤ g .nodes
+  pub right : f .node .0 < g .nodes
+  pub room : p .copies + length (said (variablesIn work l (f .variables))) ≤ g .nodes
 
 -- of whatever pack, term and graph are held
 abbrev pub Says : List ℕ → List ℕ → List ℕ → Catalog → Layout → Counts → List ℕ → Premise → (Term → Graph → Type 0) → Type 0
@@ -77,14 +79,14 @@ pub record Met (work′ cells cells′ : List ℕ) (l : Layout) (g′ : Counts) 
   pub word : to ≡ from + length (termWords t)
   pub room : cellsOf (instantiate t env h .graph) ≤ length cells
 
--- what is answered
-abbrev pub MeetsTo : List ℕ → List ℕ → List ℕ → List ℕ → List ℕ → Catalog → Layout → Counts → Memo → List ℕ → Premise → ℕ → ℕ → Taken → Type 0
-MeetsTo bytes work work′ cells cells′ c l g memo env p y n (On g′ memo′ x to k) =
-    (memo′ ≡ memo) × Noted work work′ cells l n (p .copies) k × (g .nodes ≤ g′ .nodes)
-    × Says bytes work cells c l g env p (λ t h. Met work′ cells cells′ l g′ env (p .from) (x .0) y to t h)
-MeetsTo bytes work work′ cells cells′ c l g memo env p y n Clash =
-    Says bytes work cells c l g env p (λ t h. (meets t env h y .graph ≡ none) × (cellsOf (instantiate t env h .graph) ≤ length cells))
-MeetsTo bytes work work′ cells cells′ c l g memo env p y n Short = Says bytes work cells c l g env p (λ t h. length cells < cellsOf (instantiate t env h .graph))
+-- what is answered: it is refused by a clash, or for want of cells
+abbrev pub MeetsTo : List ℕ → List ℕ → List ℕ → List ℕ → List ℕ → Catalog → Layout → Counts → List ℕ → Premise → Fresh → Taken → Type 0
+MeetsTo bytes work work′ cells cells′ c l g env p f (On t x) =
+    (t .memo ≡ f .memo) × Noted work work′ cells l (f .variables) (p .copies) (t .copies) × (g .nodes ≤ t .graph .nodes)
+    × Says bytes work cells c l g env p (λ a h. Met work′ cells cells′ l (t .graph) env (p .from) (x .0) (f .node .0) (t .from) a h)
+MeetsTo bytes work work′ cells cells′ c l g env p f (Refused z) =
+    ((z ≡ Clashes (p .step)) × Says bytes work cells c l g env p (λ a h. (meets a env h (f .node .0) .graph ≡ none) × (cellsOf (instantiate a env h .graph) ≤ length cells)))
+    ⊎ ((z ≡ TooShort 3) × Says bytes work cells c l g env p (λ a h. length cells < cellsOf (instantiate a env h .graph)))
 
 -- a term alone is spelt as it is
 spelt-one : (P : Pack) (p : Premise) (t : Term) → SpellsAt P p t → Spelt P (p .rule) (p .vars) (p .from) (cons t nil)
@@ -129,7 +131,7 @@ mutual
   all-cells nil env h = omega arith
   all-cells (cons t ts) env h = let i = all-cells ts env h in let j = instantiate-cells t env (instantiateAll ts env h .graph) in omega arith
 
-module _ (bytes work cells : List ℕ) (c : Catalog) (l : Layout) (g : Counts) (env : List ℕ) (p : Premise) (y n : ℕ) (M : Meeting bytes work cells c l g env p y n) where
+module _ (bytes work cells : List ℕ) (c : Catalog) (l : Layout) (g : Counts) (env : List ℕ) (p : Premise) (f : Fresh) (M : Meeting bytes work cells c l g env p f) where
   -- the term's end is looked for
   pub meeting-spelt : SpeltAll (M .held .pack) (p .rule) (p .vars) (p .from) 1
   unfolding count
@@ -158,16 +160,16 @@ module _ (bytes work cells : List ℕ) (c : Catalog) (l : Layout) (g : Counts) (
     }
 
     -- there is no room for it
-    pub meets-short : (work₁ cells′ : List ℕ) (memo : Memo) → Instantiates bytes work work₁ cells cells′ c (placeOf l (p .rule) (p .vars)) g env (p .from) to Full → MeetsTo bytes work work₁ cells cells′ c l g memo env p y n Short
-    meets-short work₁ cells′ memo I P R Q t S h H J b = I P R Q t (spells-to P R Q t S) h H J b
+    pub meets-short : (work₁ cells′ : List ℕ) → Instantiates bytes work work₁ cells cells′ c (placeOf l (p .rule) (p .vars)) g env (p .from) to Full → MeetsTo bytes work work₁ cells cells′ c l g env p f (Refused (TooShort 3))
+    meets-short work₁ cells′ I = inr (refl, λ P R Q t S h H J b. I P R Q t (spells-to P R Q t S) h H J b)
 
     -- it is there
     module _ (x : Node) (g′ : Counts) (work₁ cells′ : List ℕ) (I : Instantiates bytes work work₁ cells cells′ c (placeOf l (p .rule) (p .vars)) g env (p .from) to (At x g′)) (long : length cells′ ≡ length cells) where
       outside : Outside (l .graph) (l .graph + rowsEnd cells) work work₁
       outside = I .0
 
-      variables-same : variablesIn work₁ l n ≡ variablesIn work l n
-      variables-same = part-ahead (l .graph) (l .graph + rowsEnd cells) work work₁ outside (l .variables) n (M .variables) (omega (arith, M .variables, M .table, M .inside))
+      variables-same : variablesIn work₁ l (f .variables) ≡ variablesIn work l (f .variables)
+      variables-same = part-ahead (l .graph) (l .graph + rowsEnd cells) work work₁ outside (l .variables) (f .variables) (M .variables) (omega (arith, M .variables, M .table, M .inside))
 
       abbrev top : Graph
       top = instantiate (M .term) env (M .graph) .graph
@@ -181,7 +183,7 @@ module _ (bytes work cells : List ℕ) (c : Catalog) (l : Layout) (g : Counts) (
       few-nodes : g′ .nodes ≤ length cells
       few-nodes = omega (arith, nodes-few cells′ (tableIn work₁ l) g′ (built .1 .laid), built .1 .laid .fits, long)
 
-      pub meeting-joining : Joining work₁ cells′ l g′ (x .0) y n (p .copies)
+      pub meeting-joining : Joining work₁ cells′ l g′ (x .0) (f .node .0) (f .variables) (p .copies)
       meeting-joining = record {
         variables = M .variables;
         table = omega (arith, M .table, long);
@@ -195,14 +197,14 @@ module _ (bytes work cells : List ℕ) (c : Catalog) (l : Layout) (g : Counts) (
       }
 
       -- what was noted before is as it was
-      noted-same : (work′ : List ℕ) (k : ℕ) → Noted work₁ work′ cells′ l n (p .copies) k → Noted work work′ cells l n (p .copies) k
+      noted-same : (work′ : List ℕ) (k : ℕ) → Noted work₁ work′ cells′ l (f .variables) (p .copies) k → Noted work work′ cells l (f .variables) (p .copies) k
       noted-same work′ k N =
           let at : l .graph + copiesAt cells′ ≡ l .graph + copiesAt cells = ap (λ (m : ℕ). l .graph + (11 * m + 7)) long in
           let before : copiesIn work₁ cells l (p .copies) ≡ copiesIn work cells l (p .copies) =
           part-behind (l .graph) (l .graph + rowsEnd cells) work work₁ outside (l .graph + copiesAt cells) (p .copies) (omega arith) (omega (arith, M .room, more-nodes, few-nodes, M .table, M .inside)) in
           record {
             outside = outside-then (l .graph) (l .end) work work₁ work′ (outside-wider (l .graph) (l .graph + rowsEnd cells) (l .graph) (l .end) work work₁ (omega arith) (omega (arith, M .table)) outside) (N .outside);
-            list = ap (λ (a : ℕ). part a k work′) (sym at) ∙ N .list ∙ ap₂ (λ (a : ℕ) (ys : List ℕ). part a (p .copies) work₁ ++ said ys) at variables-same ∙ ap (λ (xs : List ℕ). xs ++ said (variablesIn work l n)) before;
+            list = ap (λ (a : ℕ). part a k work′) (sym at) ∙ N .list ∙ ap₂ (λ (a : ℕ) (ys : List ℕ). part a (p .copies) work₁ ++ said ys) at variables-same ∙ ap (λ (xs : List ℕ). xs ++ said (variablesIn work l (f .variables))) before;
             many = N .many ∙ ap (λ (xs : List ℕ). p .copies + length (said xs)) variables-same;
           }
 
@@ -214,18 +216,18 @@ module _ (bytes work cells : List ℕ) (c : Catalog) (l : Layout) (g : Counts) (
       fits : (t : Term) (h : Graph) → Shows cells′ (tableIn work₁ l) g′ (instantiate t env h .graph) → cellsOf (instantiate t env h .graph) ≤ length cells
       fits t h H = omega (arith, cells-shown cells′ (tableIn work₁ l) g′ (instantiate t env h .graph) H, H .laid .fits, long)
 
-      pub meets-joined : (memo : Memo) (work′ : List ℕ) (r : Taken) → JoinsTo work₁ work′ cells′ l g′ memo (x .0) y n to (p .copies) r → MeetsTo bytes work work′ cells cells′ c l g memo env p y n r
-      meets-joined memo work′ (On g″ memo′ z to′ k) J =
+      pub meets-joined : (work′ : List ℕ) (r : Taken) → JoinsTo work₁ work′ cells′ l g′ p f (x .0) to r → MeetsTo bytes work work′ cells cells′ c l g env p f r
+      meets-joined work′ (On r z) J =
           let e = J .0 in (
             J .1,
-            noted-same work′ k (J .4),
+            noted-same work′ (r .copies) (J .4),
             rw e more-nodes,
             λ P R Q t S h H I′ b.
                 let G = given P R Q t S h H I′ b in
                 let u = J .5 (instantiate t env h .graph) (G .1) (G .2) in
                 record {
                   graph = u .0;
-                  unified = ap (λ (i : ℕ). unify (instantiate t env h .graph) i y .graph) (sym (G .0)) ∙ u .1;
+                  unified = ap (λ (i : ℕ). unify (instantiate t env h .graph) i (f .node .0) .graph) (sym (G .0)) ∙ u .1;
                   shows = rw e (u .2);
                   inner = u .3;
                   instance = J .2 ∙ G .0;
@@ -234,7 +236,10 @@ module _ (bytes work cells : List ℕ) (c : Catalog) (l : Layout) (g : Counts) (
                   room = fits t h (G .1);
                 },
           )
-      meets-joined memo work′ Clash J = λ P R Q t S h H I′ b.
-          let G = given P R Q t S h H I′ b in
-          (ap (λ (i : ℕ). unify (instantiate t env h .graph) i y .graph) (sym (G .0)) ∙ J (instantiate t env h .graph) (G .1) (G .2), fits t h (G .1))
-      meets-joined memo work′ Short J = absurd J
+      meets-joined work′ (Refused z) J =
+          inl (
+            J .0,
+            λ P R Q t S h H I′ b.
+                let G = given P R Q t S h H I′ b in
+                (ap (λ (i : ℕ). unify (instantiate t env h .graph) i (f .node .0) .graph) (sym (G .0)) ∙ J .1 (instantiate t env h .graph) (G .1) (G .2), fits t h (G .1)),
+          )

@@ -1,5 +1,6 @@
 -- The premises that are left while one after the other is taken.
 use mathlib.Core.Path.{_≡_, refl, sym, ap, ap₂, _∙_, subst}
+use mathlib.Core.Logic.{inl, inr}
 use mathlib.Core.Bool.{Bool}
 use mathlib.Core.List.{List, [], _∷_, _++_, map}
 use mathlib.Core.Option.{some}
@@ -20,6 +21,7 @@ use Rattle.definition.specs.Verdict.{Bound}
 use Rattle.definition.specs.Analysis.{copied, instantiate, copy}
 use Rattle.definition.specs.Classes.{Class, noClass, Built, Premises, inOrder}
 use Rattle.definition.specs.Laws.Prefix.{termWords, termsWords}
+use Rattle.definition.specs.declared.Refusal.{Refusal}
 use Rattle.definition.specs.declared.Refusal.the-variants.{Clash as Clashes, Short as TooShort}
 use Rattle.theory.specs.Copies.Variables.{upTo-below}
 use Rattle.theory.specs.Keys.Needed.{first-earlier}
@@ -50,11 +52,14 @@ use Rattle.class_premises.specs.Layout.{tableIn}
 use Rattle.class_premises.specs.Joins.{copiesIn}
 use Rattle.class_premises.specs.Meets.{SpellsAt, instantiate-longer}
 use Rattle.class_premises.specs.Copied.{copy-order-below}
-use Rattle.class_premises.specs.Takes.{conclusionIn, countIn, flexIn, Row, placedOf, joinedOf, freshIn, placedIn, joinedIn, Taking, Took, TakesTo}
+use Rattle.class_premises.specs.Takes.{conclusionIn, countIn, flexIn, Row, placedOf, joinedOf, freshIn, placedIn, joinedIn, Taking, Took, Clashing, Crowded, TakesTo}
 use Rattle.class_premises.specs.declared.layout.Layout.{Layout}
 use Rattle.class_premises.specs.declared.premise.Premise.{Premise}
+use Rattle.class_premises.specs.declared.premise.Reached.{Reached}
 use Rattle.class_premises.specs.declared.premise.Taken.{Taken}
-use Rattle.class_premises.specs.declared.premise.Taken.the-variants.{On, Clash, Short}
+use Rattle.class_premises.specs.declared.premise.Taken.the-variants.{On, Refused}
+use Rattle.class_premises.specs.declared.building.Building.{Building}
+use Rattle.class_premises.specs.Buffers.{Buffers}
 use Rattle.class_premises.specs.Rows.{row-within, row-conclusion, row-count, row-marks}
 use Rattle.class_premises.specs.Standing.{Standing, standing-held, standing-keyed, standing-behind, standing-few, standing-on, standing-cells}
 use Rattle.class_premises.specs.declared.premises.Ruling.{Ruling}
@@ -109,13 +114,19 @@ Whatever bytes work class words cells c k l st memo g env u i from copies F =
     (r : KeyCounts) (fill : ℕ) (P : Pack) (b : Built) (ts : Terms) (refs : List ℕ) (ps : Premises) → Here bytes work class words cells c k l r st memo fill g env u i from copies P b ts refs ps → F r fill P b ts refs ps
 
 abbrev pub Nexts : List ℕ → List ℕ → List ℕ → List ℕ → List ℕ → List ℕ → List ℕ → Catalog → Keying → Layout → Store → Memo → Counts → List ℕ → Ruling → ℕ → ℕ → ℕ → Taken → Type 0
-Nexts bytes work work′ class words cells cells′ c k l st memo g env u i from copies (On g′ memo′ x to copies′) =
+Nexts bytes work work′ class words cells cells′ c k l st memo g env u i from copies (On t x) =
     Outside (l .copied) (l .end) work work′
-    × Whatever bytes work class words cells c k l st memo g env u i from copies (λ r fill P b ts refs ps. Next bytes work′ class words cells cells′ c k l r st memo′ fill g′ env u i (x .0) to copies′ P b ts refs ps)
-Nexts bytes work work′ class words cells cells′ c k l st memo g env u i from copies Clash =
-    Whatever bytes work class words cells c k l st memo g env u i from copies (λ r fill P b ts refs ps. (L : Lent) → L .graph ≡ length cells → outcome L (takes P b u ts refs ps) ≡ refuse (Clashes (u .step)))
-Nexts bytes work work′ class words cells cells′ c k l st memo g env u i from copies Short =
-    Whatever bytes work class words cells c k l st memo g env u i from copies (λ r fill P b ts refs ps. (L : Lent) → L .graph ≡ length cells → outcome L (takes P b u ts refs ps) ≡ refuse (TooShort 3))
+    × Whatever bytes work class words cells c k l st memo g env u i from copies (λ r fill P b ts refs ps. Next bytes work′ class words cells cells′ c k l r st (t .memo) fill (t .graph) env u i (x .0) (t .from) (t .copies) P b ts refs ps)
+Nexts bytes work work′ class words cells cells′ c k l st memo g env u i from copies (Refused z) =
+    Whatever bytes work class words cells c k l st memo g env u i from copies (λ r fill P b ts refs ps. (L : Lent) → L .graph ≡ length cells → outcome L (takes P b u ts refs ps) ≡ refuse z)
+
+-- both of buffers that are lent, what is at hand and what is reached
+abbrev pub NextingIn : Buffers → Building → Reached → List ℕ → Ruling → ℕ → Type 0
+NextingIn B s t env u i = Nexting (B .pack) (B .work) (B .class) (B .pattern) (B .graph) (s .catalog) (s .keying) (s .layout) (s .store) (t .memo) (t .graph) env u i (t .from) (t .copies)
+
+abbrev pub NextsIn : Buffers → Buffers → Building → Reached → List ℕ → Ruling → ℕ → Taken → Type 0
+NextsIn B B′ s t env u i r =
+    Nexts (B .pack) (B .work) (B′ .work) (B .class) (B .pattern) (B .graph) (B′ .graph) (s .catalog) (s .keying) (s .layout) (s .store) (t .memo) (t .graph) env u i (t .from) (t .copies) r
 
 -- ---- terms one by one
 -- a premise is left
@@ -164,9 +175,9 @@ module _ (P : Pack) (r vars from : ℕ) (t : Term) (ts : Terms) (S : Spelt P r v
   both : SortedAll P (ruleOf P r .vars) (cons t ts) (parts .0 ∷ parts .1)
   both = subst (SortedAll P (ruleOf P r .vars) (cons t ts)) (parts .2) (S .sorted)
 
-  pub first-spells : (row copies : ℕ) → length (ruleWords (ruleOf P r)) ≤ 256 → SpellsAt P (record { rule = r; vars = vars; row = row; from = from; copies = copies }) t
+  pub first-spells : (step row copies : ℕ) → length (ruleWords (ruleOf P r)) ≤ 256 → SpellsAt P (record { step = step; rule = r; vars = vars; row = row; from = from; copies = copies }) t
   unfolding termsWords
-  first-spells row copies few = record {
+  first-spells step row copies few = record {
     rule = S .rule;
     many = S .many;
     words = λ j h. S .words j (omega (arith, long)) ∙ List·getD-append (termWords t) (termsWords ts) 0 j h;
@@ -271,7 +282,7 @@ module _ (bytes work class words cells : List ℕ) (c : Catalog) (k : Keying) (l
   x = getD (b .classes) child noClass
 
   abbrev p : Premise
-  p = record { rule = u .rule; vars = u .vars; row = row; from = from; copies = copies }
+  p = record { step = u .step; rule = u .rule; vars = u .vars; row = row; from = from; copies = copies }
 
   stands : Row class words cells st row
   stands =
@@ -288,7 +299,7 @@ module _ (bytes work class words cells : List ℕ) (c : Catalog) (k : Keying) (l
   spelt-front = subst (Spelt P (u .rule) (u .vars) from) (F .is) (H .spelt)
 
   spells : SpellsAt P p (F .term)
-  spells = first-spells P (u .rule) (u .vars) from (F .term) (F .rest) spelt-front row copies words-few
+  spells = first-spells P (u .rule) (u .vars) from (F .term) (F .rest) spelt-front (u .step) row copies words-few
 
   env-below : Below (length (ps .graph)) env
   env-below = subst (Below (length (ps .graph))) (sym (H .env-is)) (below-more (u .vars) (length (ps .graph)) (upTo (u .vars)) (H .wide) (upTo-below (u .vars)))
@@ -359,16 +370,20 @@ module _ (bytes work class words cells : List ℕ) (c : Catalog) (k : Keying) (l
   joined-are : joinedIn class words st row env (F .term) (ps .graph) ≡ joinedOf (b .store) (x .flex) (x .conclusion) (upTo (u .vars)) (F .term) (ps .graph)
   joined-are = same-of (λ s fl q e. joinedOf s fl q e (F .term) (ps .graph))
 
-  pub next-short : (work′ cells′ : List ℕ) → TakesTo bytes work work′ class words cells cells′ c l st g env p Short → (L : Lent) → L .graph ≡ length cells → outcome L (takes P b u ts refs ps) ≡ refuse (TooShort 3)
-  next-short work′ cells′ T L e =
+  next-crowded : Crowded bytes work class words cells c l st g env p → (L : Lent) → L .graph ≡ length cells → outcome L (takes P b u ts refs ps) ≡ refuse (TooShort 3)
+  next-crowded T L e =
       let h = says T in
       ap (outcome L) takes-are ∙ takes-short P b u (F .term) (F .rest) first (drop (suc i) (refsOf P u)) ps L (omega (arith, h, cells-are))
 
-  pub next-clash : (work′ cells′ : List ℕ) → TakesTo bytes work work′ class words cells cells′ c l st g env p Clash → (L : Lent) → L .graph ≡ length cells → outcome L (takes P b u ts refs ps) ≡ refuse (Clashes (u .step))
-  next-clash work′ cells′ T L e =
+  next-clash : Clashing bytes work class words cells c l st g env p → (L : Lent) → L .graph ≡ length cells → outcome L (takes P b u ts refs ps) ≡ refuse (Clashes (u .step))
+  next-clash T L e =
       let h = says T in
       ap (outcome L) takes-are
       ∙ takes-clash P b u (F .term) (F .rest) first (drop (suc i) (refsOf P u)) ps L (omega (arith, h .1, cells-are)) (ap (λ (v : Unified). v .graph) (sym joined-are) ∙ h .0)
+
+  pub next-refused : (work′ cells′ : List ℕ) (z : Refusal) → TakesTo bytes work work′ class words cells cells′ c l st g env p (Refused z) → (L : Lent) → L .graph ≡ length cells → outcome L (takes P b u ts refs ps) ≡ refuse z
+  next-refused work′ cells′ z (inl T) L e = next-clash (T .1) L e ∙ ap refuse (sym (T .0))
+  next-refused work′ cells′ z (inr T) L e = next-crowded (T .1) L e ∙ ap refuse (sym (T .0))
 
   -- arguments stay few
   few-joined : (h : Graph) → joinedOf (b .store) (x .flex) (x .conclusion) (upTo (u .vars)) (F .term) (ps .graph) .graph ≡ some h → FewArgs h
@@ -388,19 +403,19 @@ module _ (bytes work class words cells : List ℕ) (c : Catalog) (k : Keying) (l
       let same = unify-same (inst .graph) (inst .at) (copied (fresh .nodes) (x .conclusion)) h j in
       below-more (length (fresh .graph)) (length h) (inOrder (upTo (length (x .flex))) (fresh .variables)) (omega (arith, same .long, instantiate-longer (F .term) (upTo (u .vars)) (fresh .graph))) (copy-order-below (b .store) (x .flex) (ps .graph) (x .conclusion) (upTo (length (x .flex))))
 
-  pub next-on : (work′ cells′ : List ℕ) (g′ : Counts) (memo′ : Memo) (y : Id) (to copies′ : ℕ) → length cells′ ≡ length cells → TakesTo bytes work work′ class words cells cells′ c l st g env p (On g′ memo′ y to copies′)
-      → Next bytes work′ class words cells cells′ c k l r st memo′ fill g′ env u i (y .0) to copies′ P b ts refs ps
-  next-on work′ cells′ g′ memo′ y to copies′ long T =
-      let h : Took work work′ class words cells cells′ l st g′ env p (y .0) to copies′ (F .term) (ps .graph) = says (T .4) in
+  pub next-on : (work′ cells′ : List ℕ) (t : Reached) (y : Id) → length cells′ ≡ length cells → TakesTo bytes work work′ class words cells cells′ c l st g env p (On t y)
+      → Next bytes work′ class words cells cells′ c k l r st (t .memo) fill (t .graph) env u i (y .0) (t .from) (t .copies) P b ts refs ps
+  next-on work′ cells′ t y long T =
+      let h : Took work work′ class words cells cells′ l st (t .graph) env p (y .0) (t .from) (t .copies) (F .term) (ps .graph) = says (T .4) in
       let next : Premises = nextOf P b u (F .term) first ps (h .graph) in
       let j : joinedOf (b .store) (x .flex) (x .conclusion) (upTo (u .vars)) (F .term) (ps .graph) .graph ≡ some (h .graph) = ap (λ (v : Unified). v .graph) (sym joined-are) ∙ h .unified in
       let at : y .0 ≡ instantiate (F .term) (upTo (u .vars)) (copy (b .store) (x .flex) (ps .graph) (x .conclusion) .graph) .at = h .instance ∙ same-of (λ s fl q e. instantiate (F .term) e (copy s fl (ps .graph) q .graph) .at) in
-      let on : Standing bytes work′ class words cells c k l r st memo′ fill P b = standing-on bytes work class words cells c k l r st memo fill P b S work′ memo′ (upto-outside (l .copied) (l .copied) (l .end) work work′ (omega arith) (T .0)) (T .1) in
-      let many = many-nodes cells′ (tableIn work′ l) g′ (h .graph) (h .shows) in
+      let on : Standing bytes work′ class words cells c k l r st (t .memo) fill P b = standing-on bytes work class words cells c k l r st memo fill P b S work′ (t .memo) (upto-outside (l .copied) (l .copied) (l .end) work work′ (omega arith) (T .0)) (T .1) in
+      let many = many-nodes cells′ (tableIn work′ l) (t .graph) (h .graph) (h .shows) in
       let before = many-nodes cells (tableIn work l) g (ps .graph) (H .shows) in
       let grown : length (ps .graph) ≤ length (h .graph) = omega (arith, T .3) in
-      let where-copies : copiesIn work′ cells′ l copies′ ≡ copiesIn work′ cells l copies′ = ap (λ (n : ℕ). part (l .graph + (11 * n + 7)) copies′ work′) long in
-      let list : copiesIn work′ cells l copies′ ≡ ps .copies ++ inOrder (upTo (length (x .flex))) (copy (b .store) (x .flex) (ps .graph) (x .conclusion) .variables) =
+      let where-copies : copiesIn work′ cells′ l (t .copies) ≡ copiesIn work′ cells l (t .copies) = ap (λ (n : ℕ). part (l .graph + (11 * n + 7)) (t .copies) work′) long in
+      let list : copiesIn work′ cells l (t .copies) ≡ ps .copies ++ inOrder (upTo (length (x .flex))) (copy (b .store) (x .flex) (ps .graph) (x .conclusion) .variables) =
       h .copies ∙ ap₂ (λ (xs : List ℕ) (n : ℕ). xs ++ inOrder (upTo n) (freshIn class words st row (ps .graph) .variables)) (H .copies-are) count-is
       ∙ ap (λ (bs : List Bound). ps .copies ++ inOrder (upTo (length (x .flex))) bs) (same-of (λ s fl q e. copy s fl (ps .graph) q .variables)) in
       record {
@@ -408,7 +423,7 @@ module _ (bytes work class words cells : List ℕ) (c : Catalog) (k : Keying) (l
         refs′ = drop (suc i) (refsOf P u);
         state = next;
         here = record {
-          standing = standing-cells bytes work′ class words cells cells′ c k l r st memo′ fill P b long on;
+          standing = standing-cells bytes work′ class words cells cells′ c k l r st (t .memo) fill P b long on;
           ruled = H .ruled;
           env-is = H .env-is;
           left = rest-count (H .left);

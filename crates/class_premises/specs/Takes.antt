@@ -1,5 +1,6 @@
 -- One premise as a whole: a fresh copy of its ref's conclusion, then the instance unified with it.
 use mathlib.Core.Path.{_≡_, refl, sym, ap, ap₂, _∙_, subst}
+use mathlib.Core.Logic.{_⊎_, inl, inr}
 use mathlib.Core.Bool.{Bool}
 use mathlib.Core.List.{List, _++_}
 use mathlib.Core.Option.{none, some}
@@ -13,6 +14,7 @@ use Rattle.definition.specs.Graph.{Graph, upTo, Unified, unify, cells as cellsO
 use Rattle.definition.specs.Analysis.{Copy, copied, copy, instantiate}
 use Rattle.definition.specs.Classes.{inOrder}
 use Rattle.definition.specs.Laws.Prefix.{termWords}
+use Rattle.definition.specs.declared.Refusal.the-variants.{Clash as Clashes, Short as TooShort}
 use Rattle.base.specs.Part.{part, length-part, part-lent}
 use Rattle.base.specs.Outside.{Outside, outside-then, outside-wider, part-ahead, part-behind}
 use Rattle.base.specs.declared.id.Node.{Node as Id}
@@ -35,8 +37,11 @@ use Rattle.term_copy.specs.declared.copy.Copied.the-variants as answers
 use Rattle.term_copy.specs.declared.copy.Copied.{Copied}
 use Rattle.class_premises.specs.declared.layout.Layout.{Layout}
 use Rattle.class_premises.specs.declared.premise.Premise.{Premise}
+use Rattle.class_premises.specs.declared.premise.Fresh.{Fresh}
 use Rattle.class_premises.specs.declared.premise.Taken.{Taken}
-use Rattle.class_premises.specs.declared.premise.Taken.the-variants.{On, Clash, Short}
+use Rattle.class_premises.specs.declared.premise.Taken.the-variants.{On, Refused}
+use Rattle.class_premises.specs.declared.building.Building.{Building}
+use Rattle.class_premises.specs.Buffers.{Buffers}
 use Rattle.class_premises.specs.Layout.{copyingOf, indexIn, memoIn, tableIn, copiesAt, Laid}
 use Rattle.class_premises.specs.Noted.{said}
 use Rattle.class_premises.specs.Copied.{copied-inside, copy-longer, copy-variables, in-order-few, in-order-said}
@@ -126,14 +131,29 @@ pub record Took (work work′ class words cells cells′ : List ℕ) (l : Layout
   pub room : cellsOf (placedIn class words st (p .row) env t h) ≤ length cells
   pub copies : copiesIn work′ cells l k ≡ copiesIn work cells l (p .copies) ++ inOrder (upTo (countIn class (p .row))) (freshIn class words st (p .row) h .variables)
 
+-- the two clash
+abbrev pub Clashing : List ℕ → List ℕ → List ℕ → List ℕ → List ℕ → Catalog → Layout → Store → Counts → List ℕ → Premise → Type 0
+Clashing bytes work class words cells c l st g env p =
+    Says bytes work cells c l g env p (λ t h. (joinedIn class words st (p .row) env t h .graph ≡ none) × (cellsOf (placedIn class words st (p .row) env t h) ≤ length cells))
+
+-- the cells have no room for them
+abbrev pub Crowded : List ℕ → List ℕ → List ℕ → List ℕ → List ℕ → Catalog → Layout → Store → Counts → List ℕ → Premise → Type 0
+Crowded bytes work class words cells c l st g env p = Says bytes work cells c l g env p (λ t h. length cells < cellsOf (placedIn class words st (p .row) env t h))
+
 -- what is answered
 abbrev pub TakesTo : List ℕ → List ℕ → List ℕ → List ℕ → List ℕ → List ℕ → List ℕ → Catalog → Layout → Store → Counts → List ℕ → Premise → Taken → Type 0
-TakesTo bytes work work′ class words cells cells′ c l st g env p (On g′ memo′ x to k) =
-    Outside (l .copied) (l .end) work work′ × Remembers (memoIn work′ l) memo′ × (k ≤ g′ .nodes) × (g .nodes ≤ g′ .nodes)
-    × Says bytes work cells c l g env p (λ t h. Took work work′ class words cells cells′ l st g′ env p (x .0) to k t h)
-TakesTo bytes work work′ class words cells cells′ c l st g env p Clash =
-    Says bytes work cells c l g env p (λ t h. (joinedIn class words st (p .row) env t h .graph ≡ none) × (cellsOf (placedIn class words st (p .row) env t h) ≤ length cells))
-TakesTo bytes work work′ class words cells cells′ c l st g env p Short = Says bytes work cells c l g env p (λ t h. length cells < cellsOf (placedIn class words st (p .row) env t h))
+TakesTo bytes work work′ class words cells cells′ c l st g env p (On t x) =
+    Outside (l .copied) (l .end) work work′ × Remembers (memoIn work′ l) (t .memo) × (t .copies ≤ t .graph .nodes) × (g .nodes ≤ t .graph .nodes)
+    × Says bytes work cells c l g env p (λ a h. Took work work′ class words cells cells′ l st (t .graph) env p (x .0) (t .from) (t .copies) a h)
+TakesTo bytes work work′ class words cells cells′ c l st g env p (Refused z) =
+    ((z ≡ Clashes (p .step)) × Clashing bytes work class words cells c l st g env p) ⊎ ((z ≡ TooShort 3) × Crowded bytes work class words cells c l st g env p)
+
+-- both of buffers that are lent, and what is at hand
+abbrev pub TakingIn : Buffers → Building → Memo → Counts → List ℕ → Premise → Type 0
+TakingIn B s memo g env p = Taking (B .pack) (B .work) (B .class) (B .pattern) (B .graph) (s .catalog) (s .layout) (s .store) memo g env p
+
+abbrev pub TakesIn : Buffers → Buffers → Building → Counts → List ℕ → Premise → Taken → Type 0
+TakesIn B B′ s g env p r = TakesTo (B .pack) (B .work) (B′ .work) (B .class) (B .pattern) (B .graph) (B′ .graph) (s .catalog) (s .layout) (s .store) g env p r
 
 -- the marks are as many as the row says
 flex-long : (class words cells : List ℕ) (st : Store) (row : ℕ) → Row class words cells st row → length (flexIn class row) ≡ countIn class row
@@ -168,10 +188,14 @@ module _ (bytes work class words cells : List ℕ) (c : Catalog) (l : Layout) (s
   taking-copying = record { laid = T .laid; stored = T .stored; patterns = T .patterns; remembers = T .remembers; graph = (T .graph, T .shows, T .inner); stands = T .stands }
 
   -- the copy alone has too many cells
-  pub takes-full : (work₁ cells₁ : List ℕ) → CopiesTo work work₁ class words cells cells₁ l st g (p .row) answers.Short → TakesTo bytes work work₁ class words cells cells₁ c l st g env p Short
-  takes-full work₁ cells₁ C P R Q t S h H I b =
-      let fresh = freshIn class words st (p .row) h in
-      omega (arith, C .0 h H I, instantiate-cells t env (fresh .graph))
+  pub takes-full : (work₁ cells₁ : List ℕ) → CopiesTo work work₁ class words cells cells₁ l st g (p .row) answers.Short → TakesTo bytes work work₁ class words cells cells₁ c l st g env p (Refused (TooShort 3))
+  takes-full work₁ cells₁ C =
+      inr (
+        refl,
+        λ P R Q t S h H I b.
+            let fresh = freshIn class words st (p .row) h in
+            omega (arith, C .0 h H I, instantiate-cells t env (fresh .graph)),
+      )
 
   -- it is there
   module _ (y : Id) (g₁ : Counts) (memo₁ : Memo) (work₁ cells₁ : List ℕ) (C : CopiesTo work work₁ class words cells cells₁ l st g (p .row) (answers.At y g₁ memo₁)) (long : length cells₁ ≡ length cells) where
@@ -218,7 +242,7 @@ module _ (bytes work class words cells : List ℕ) (c : Catalog) (l : Layout) (s
       env-below : Below (length h) env → Below (length (freshIn class words st (p .row) h .graph)) env
       env-below b = below-more (length h) (length (freshIn class words st (p .row) h .graph)) env (omega (arith, nodes-more, before-many, fresh-many)) b
 
-    pub taking-meeting : Meeting bytes work₁ cells₁ c l g₁ env p (y .0) n
+    pub taking-meeting : Meeting bytes work₁ cells₁ c l g₁ env p (record { node = y; variables = countIn class (p .row); memo = memo₁ })
     taking-meeting = record {
       held = now-held;
       behind = omega (arith, T .behind, T .laid .index, T .laid .memo, T .laid .stack, T .laid .variables);
@@ -252,8 +276,8 @@ module _ (bytes work class words cells : List ℕ) (c : Catalog) (l : Layout) (s
     equal-node : (h : Graph) (H : Shows cells (tableIn work l) g h) (I : Inner h) (t : Term) → meets t env (freshIn class words st (p .row) h .graph) (y .0) ≡ joinedIn class words st (p .row) env t h
     equal-node h H I t = ap (λ (z : ℕ). meets t env (freshIn class words st (p .row) h .graph) z) (made h H I .node)
 
-    pub takes-met : (work′ cells′ : List ℕ) (r : Taken) → MeetsTo bytes work₁ work′ cells₁ cells′ c l g₁ memo₁ env p (y .0) n r → TakesTo bytes work work′ class words cells cells′ c l st g env p r
-    takes-met work′ cells′ (On g′ memo′ x to k) M =
+    pub takes-met : (work′ cells′ : List ℕ) (r : Taken) → MeetsTo bytes work₁ work′ cells₁ cells′ c l g₁ env p (record { node = y; variables = countIn class (p .row); memo = memo₁ }) r → TakesTo bytes work work′ class words cells cells′ c l st g env p r
+    takes-met work′ cells′ (On r x) M =
         let N = M .1 in
         let at : l .graph + copiesAt cells₁ ≡ l .graph + copiesAt cells = ap (λ (m : ℕ). l .graph + (11 * m + 7)) long in (
           outside-then (l .copied) (l .end) work work₁ work′
@@ -273,12 +297,20 @@ module _ (bytes work class words cells : List ℕ) (c : Catalog) (l : Layout) (s
                 node = m .node;
                 word = m .word;
                 room = omega (arith, m .room, long);
-                copies = ap (λ (a : ℕ). part a k work′) (sym at) ∙ N .list ∙ ap₂ (λ (a : ℕ) (ys : List ℕ). part a (p .copies) work₁ ++ ys) at (words-say h H I) ∙ ap (λ (xs : List ℕ). xs ++ inOrder (upTo n) (freshIn class words st (p .row) h .variables)) copies-same;
+                copies = ap (λ (a : ℕ). part a (r .copies) work′) (sym at) ∙ N .list ∙ ap₂ (λ (a : ℕ) (ys : List ℕ). part a (p .copies) work₁ ++ ys) at (words-say h H I) ∙ ap (λ (xs : List ℕ). xs ++ inOrder (upTo n) (freshIn class words st (p .row) h .variables)) copies-same;
               },
         )
-    takes-met work′ cells′ Clash M = λ P R Q t S h H I b.
-        let m = M P (reads-now P R) Q t S (freshIn class words st (p .row) h .graph) (made h H I .shows) (made h H I .inner) (env-below h H I b) in
-        (ap (λ (u : Unified). u .graph) (sym (equal-node h H I t)) ∙ m .0, omega (arith, m .1, long))
-    takes-met work′ cells′ Short M = λ P R Q t S h H I b.
-        let m = M P (reads-now P R) Q t S (freshIn class words st (p .row) h .graph) (made h H I .shows) (made h H I .inner) (env-below h H I b) in
-        omega (arith, m, long)
+    takes-met work′ cells′ (Refused z) (inl M) =
+        inl (
+          M .0,
+          λ P R Q t S h H I b.
+              let m = M .1 P (reads-now P R) Q t S (freshIn class words st (p .row) h .graph) (made h H I .shows) (made h H I .inner) (env-below h H I b) in
+              (ap (λ (u : Unified). u .graph) (sym (equal-node h H I t)) ∙ m .0, omega (arith, m .1, long)),
+        )
+    takes-met work′ cells′ (Refused z) (inr M) =
+        inr (
+          M .0,
+          λ P R Q t S h H I b.
+              let m = M .1 P (reads-now P R) Q t S (freshIn class words st (p .row) h .graph) (made h H I .shows) (made h H I .inner) (env-below h H I b) in
+              omega (arith, m, long),
+        )

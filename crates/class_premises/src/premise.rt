@@ -1,8 +1,11 @@
 // One premise: a copy of its ref's conclusion and its own instance, unified.
+use crate::building::Building;
 use crate::copies::note_copies;
 use crate::layout::Layout;
 use base::id::Node;
 use base::id::Pattern;
+use definition::Buffer;
+use definition::Refusal;
 use graph::graph::Graph;
 use graph::graph::Pushed;
 use graph_unify::unify::Outcome;
@@ -16,21 +19,30 @@ use term_copy::copy::copy;
 use term_copy::node::Copying;
 use term_instantiate::terms::Place;
 use term_instantiate::terms::instantiate;
+ghost use Rattle.class_premises.specs.Buffers.{lent};
 ghost use Rattle.class_premises.specs.Joins.{Joining, JoinsTo};
 ghost use Rattle.class_premises.specs.Meets.{Meeting, MeetsTo};
-ghost use Rattle.class_premises.specs.Takes.{Copying as Reading, CopiesTo, Taking, TakesTo};
+ghost use Rattle.class_premises.specs.Takes.{Copying as Reading, CopiesTo, TakingIn, TakesIn};
 
-// The graph and the copies' memo as they are then, the premise's instance, the word behind the premise, and how many variables of copies
-// are noted; or the two clash; or the cells have no room.
-pub enum Taken {
-    On(Graph, Memo, Node, usize, usize),
-    Clash,
-    Short,
+// What the premises that are taken come to: the graph and the copies' memo as they are then, the word of the rule behind them, and how
+// many variables of copies are noted.
+pub struct Reached {
+    pub graph: Graph,
+    pub memo: Memo,
+    pub from: usize,
+    pub copies: usize,
 }
 
-// A rule and how many variables it has; where the row of the ref's class stands in the class buffer; the word of the rule that the
-// premise starts with; how many variables of copies are noted.
+// What is reached with the premise, and its instance; or why it is refused.
+pub enum Taken {
+    On(Reached, Node),
+    Refused(Refusal),
+}
+
+// A step, its rule and how many variables that has; where the row of the ref's class stands in the class buffer; the word of the rule
+// that the premise starts with; how many variables of copies are noted.
 pub struct Premise {
+    pub step: usize,
     pub rule: usize,
     pub vars: usize,
     pub row: usize,
@@ -38,35 +50,49 @@ pub struct Premise {
     pub copies: usize,
 }
 
-// Instance `x` and copy `y`, which has `n` words for variables, are unified, and the variables are noted.
+// A fresh copy: its node, how many words for variables it has, and the copies' memo with it.
+pub struct Fresh {
+    pub node: Node,
+    pub variables: usize,
+    pub memo: Memo,
+}
+
+// Instance `x` of the premise and a copy are unified, and the copy's variables are noted. A refusal, which is a clash, leaves open what
+// the graph's table holds then.
 fn join_premise(
     work: &mut [u32],
     cells: &[u32],
     l: Layout,
     g: Graph,
-    memo: Memo,
+    p: Premise,
+    f: Fresh,
     x: Node,
-    y: Node,
-    n: usize,
     to: usize,
-    copies: usize,
 ) -> Taken
-    requires { ⌜ Joining (now work) (now cells) l g (x .0) (y .0) n copies ⌝ }
-    ensures { λ r. ⌜ JoinsTo (now (work .entry)) (now (work .exit)) (now (cells .entry)) l g memo (x .0) (y .0) n to copies r ⌝ }
+    requires { ⌜ Joining (now work) (now cells) l g (x .0) (f .node .0) (f .variables) (p .copies) ⌝ }
+    ensures { λ r. ⌜ JoinsTo (now (work .entry)) (now (work .exit)) (now (cells .entry)) l g p f (x .0) to r ⌝ }
 {
     let at = l.graph;
     let end = l.end;
-    match unify(g, cells, &mut work[at..end], x, y) {
+    match unify(g, cells, &mut work[at..end], x, f.node) {
         Outcome::Joined(_) => {
             let list = at + (11 * cells.len() + 7);
-            let noted = note_copies(work, l.variables, n, list, copies);
-            Taken::On(g, memo, x, to, noted)
+            let noted = note_copies(work, l.variables, f.variables, list, p.copies);
+            let memo = f.memo;
+            let reached = Reached {
+                graph: g,
+                memo: memo,
+                from: to,
+                copies: noted,
+            };
+            Taken::On(reached, x)
         }
-        Outcome::Clash(_) => Taken::Clash,
+        Outcome::Clash(_) => Taken::Refused(Refusal::Clash(p.step as u64)),
     }
 }
 
-// The premise's instance is put into the graph and unified with copy `y`, which has `n` words for variables.
+// The premise's instance is put into the graph and unified with a copy. A refusal leaves open what the graph's table and the cells hold
+// then.
 fn meet_premise(
     pack: &[u8],
     work: &mut [u32],
@@ -74,14 +100,12 @@ fn meet_premise(
     c: Catalog,
     l: Layout,
     g: Graph,
-    memo: Memo,
     env: &[u32],
     p: Premise,
-    y: Node,
-    n: usize,
+    f: Fresh,
 ) -> Taken
-    requires { ⌜ Meeting (now pack) (now work) (now cells) c l g (now env) p (y .0) n ⌝ }
-    ensures { λ r. ⌜ MeetsTo (now (pack .entry)) (now (work .entry)) (now (work .exit)) (now (cells .entry)) (now (cells .exit)) c l g memo (now (env .entry)) p (y .0) n r ⌝ }
+    requires { ⌜ Meeting (now pack) (now work) (now cells) c l g (now env) p f ⌝ }
+    ensures { λ r. ⌜ MeetsTo (now (pack .entry)) (now (work .entry)) (now (work .exit)) (now (cells .entry)) (now (cells .exit)) c l g (now (env .entry)) p f r ⌝ }
 {
     let to = pass_terms(pack, work, c, p.rule, p.vars, p.from, 1);
     let place = Place {
@@ -91,8 +115,8 @@ fn meet_premise(
         end: l.end,
     };
     match instantiate(pack, work, cells, c, place, g, env, p.from, to) {
-        Pushed::At(x, h) => join_premise(work, cells, l, h, memo, x, y, n, to, p.copies),
-        Pushed::Short => Taken::Short,
+        Pushed::At(x, h) => join_premise(work, cells, l, h, p, f, x, to),
+        Pushed::Short => Taken::Refused(Refusal::Short(Buffer::GRAPH)),
     }
 }
 
@@ -135,28 +159,34 @@ fn copy_class(
 }
 
 // The premise that starts with a word of a rule, whose ref has the class with a row: a copy of the class's conclusion and the premise's
-// instance are put into the graph and unified, and the copy's variables are noted.
+// instance are put into graph `g` and unified, and the copy's variables are noted. A refusal leaves open what the cells hold then, and
+// work from the memo's words on.
 pub fn take_premise(
     pack: &[u8],
     work: &mut [u32],
     class: &[u32],
     words: &[u32],
     cells: &mut [u32],
-    c: Catalog,
-    l: Layout,
-    st: Store,
+    s: Building,
     memo: Memo,
     g: Graph,
     env: &[u32],
     p: Premise,
 ) -> Taken
-    requires { ⌜ Taking (now pack) (now work) (now class) (now words) (now cells) c l st memo g (now env) p ⌝ }
-    ensures { λ r. ⌜ TakesTo (now (pack .entry)) (now (work .entry)) (now (work .exit)) (now (class .entry)) (now (words .entry)) (now (cells .entry)) (now (cells .exit)) c l st g (now (env .entry)) p r ⌝ }
+    requires { ⌜ TakingIn (lent (now pack) (now class) (now words) (now cells) (now work)) s memo g (now env) p ⌝ }
+    ensures { λ r. ⌜ TakesIn (lent (now (pack .entry)) (now (class .entry)) (now (words .entry)) (now (cells .entry)) (now (work .entry))) (lent (now (pack .entry)) (now (class .entry)) (now (words .entry)) (now (cells .exit)) (now (work .exit))) s g (now (env .entry)) p r ⌝ }
 {
     let row = p.row;
     let n = class[row + 2] as usize;
-    match copy_class(work, class, words, cells, l, st, memo, g, row) {
-        Copied::At(y, h, fresh) => { meet_premise(pack, work, cells, c, l, h, fresh, env, p, y, n) }
-        Copied::Short => Taken::Short,
+    match copy_class(work, class, words, cells, s.layout, s.store, memo, g, row) {
+        Copied::At(y, h, known) => {
+            let f = Fresh {
+                node: y,
+                variables: n,
+                memo: known,
+            };
+            meet_premise(pack, work, cells, s.catalog, s.layout, h, env, p, f)
+        }
+        Copied::Short => Taken::Refused(Refusal::Short(Buffer::GRAPH)),
     }
 }

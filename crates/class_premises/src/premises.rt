@@ -1,17 +1,16 @@
 // The premises of a rule one by one, each unified with a copy of the conclusion of its ref's class.
-use crate::layout::Layout;
+use crate::building::Building;
 use crate::premise::Premise;
+use crate::premise::Reached;
 use crate::premise::Taken;
 use crate::premise::take_premise;
-use class_keys::classes::Keying;
 use class_keys::firsts::first_of;
+use definition::Refusal;
 use graph::graph::Graph;
-use memo::memo::Memo;
 use pack_read::step::step_ref;
-use pack_tables::catalog::Catalog;
-use store::nodes::Store;
-ghost use Rattle.class_premises.specs.Next.{Nexting, Nexts};
-ghost use Rattle.class_premises.specs.AllPremises.{Starting, TakesAll};
+ghost use Rattle.class_premises.specs.Buffers.{lent};
+ghost use Rattle.class_premises.specs.Next.{NextingIn, NextsIn};
+ghost use Rattle.class_premises.specs.AllPremises.{StartingIn, TakesAllIn};
 
 // The step that makes a class: its rule, how many variables that has, how many premises.
 pub struct Ruling {
@@ -21,109 +20,79 @@ pub struct Ruling {
     pub premises: usize,
 }
 
-// The graph and the copies' memo as they are then, the word that the rule's conclusion starts with, and how many variables of copies are
-// noted; or a premise clashes with the copy; or the cells have no room.
+// What is reached with all premises, whose words end where the rule's conclusion starts; or why one is refused.
 pub enum Premised {
-    On(Graph, Memo, usize, usize),
-    Clash,
-    Short,
+    On(Reached),
+    Refused(Refusal),
 }
 
-// Premise `i`, which starts with word `from` of the rule, behind so many variables of copies.
+// Premise `i`, behind those that are taken. A refusal leaves open what the cells hold then, and work from the memo's words on.
 fn next_premise(
     pack: &[u8],
     work: &mut [u32],
     class: &[u32],
     words: &[u32],
     cells: &mut [u32],
-    c: Catalog,
-    k: Keying,
-    l: Layout,
-    st: Store,
-    memo: Memo,
-    g: Graph,
+    s: Building,
+    t: Reached,
     env: &[u32],
     u: Ruling,
     i: usize,
-    from: usize,
-    copies: usize,
 ) -> Taken
-    requires { ⌜ Nexting (now pack) (now work) (now class) (now words) (now cells) c k l st memo g (now env) u i from copies ⌝ }
-    ensures { λ t. ⌜ Nexts (now (pack .entry)) (now (work .entry)) (now (work .exit)) (now (class .entry)) (now (words .entry)) (now (cells .entry)) (now (cells .exit)) c k l st memo g (now (env .entry)) u i from copies t ⌝ }
+    requires { ⌜ NextingIn (lent (now pack) (now class) (now words) (now cells) (now work)) s t (now env) u i ⌝ }
+    ensures { λ r. ⌜ NextsIn (lent (now (pack .entry)) (now (class .entry)) (now (words .entry)) (now (cells .entry)) (now (work .entry))) (lent (now (pack .entry)) (now (class .entry)) (now (words .entry)) (now (cells .exit)) (now (work .exit))) s t (now (env .entry)) u i r ⌝ }
 {
-    let r = step_ref(pack, work, c, u.step, i) as usize;
-    let f = first_of(pack, work, c, k.at, r);
-    let at = l.rows + class[f] as usize;
+    let r = step_ref(pack, work, s.catalog, u.step, i) as usize;
+    let f = first_of(pack, work, s.catalog, s.keying.at, r);
+    let at = s.layout.rows + class[f] as usize;
     let row = work[at] as usize;
     let p = Premise {
+        step: u.step,
         rule: u.rule,
         vars: u.vars,
         row: row,
-        from: from,
-        copies: copies,
+        from: t.from,
+        copies: t.copies,
     };
-    take_premise(pack, work, class, words, cells, c, l, st, memo, g, env, p)
+    take_premise(pack, work, class, words, cells, s, t.memo, t.graph, env, p)
 }
 
-// All premises; the instance of each is put down.
+// All premises, from a graph of the rule's variables on; the instance of each is put down. A refusal leaves open what instances and cells
+// hold then, and work from the memo's words on.
 pub fn take_premises(
     pack: &[u8],
     work: &mut [u32],
     class: &[u32],
     words: &[u32],
     cells: &mut [u32],
-    c: Catalog,
-    k: Keying,
-    l: Layout,
-    st: Store,
-    memo: Memo,
+    s: Building,
     g: Graph,
     env: &[u32],
     u: Ruling,
     instances: &mut [u32],
 ) -> Premised
-    requires { ⌜ Starting (now pack) (now work) (now class) (now words) (now cells) c k l st memo g (now env) u (now instances) ⌝ }
-    ensures { λ r. ⌜ TakesAll (now (pack .entry)) (now (work .entry)) (now (work .exit)) (now (class .entry)) (now (words .entry)) (now (cells .entry)) (now (cells .exit)) c k l st memo g (now (env .entry)) u (now (instances .exit)) r ⌝ }
+    requires { ⌜ StartingIn (lent (now pack) (now class) (now words) (now cells) (now work)) s g (now env) u (now instances) ⌝ }
+    ensures { λ r. ⌜ TakesAllIn (lent (now (pack .entry)) (now (class .entry)) (now (words .entry)) (now (cells .entry)) (now (work .entry))) (lent (now (pack .entry)) (now (class .entry)) (now (words .entry)) (now (cells .exit)) (now (work .exit))) s g (now (env .entry)) u (now (instances .exit)) r ⌝ }
 {
-    let mut graph = g;
-    let mut known = memo;
-    let mut from: usize = 0;
-    let mut copies: usize = 0;
+    let memo = s.memo;
+    let mut t = Reached {
+        graph: g,
+        memo: memo,
+        from: 0,
+        copies: 0,
+    };
     let mut i: usize = 0;
     while i < u.premises {
-        match next_premise(
-            pack,
-            work,
-            class,
-            words,
-            cells,
-            c,
-            k,
-            l,
-            st,
-            known,
-            graph,
-            env,
-            u,
-            i,
-            from,
-            copies,
-        ) {
-            Taken::On(h, fresh, x, to, noted) => {
+        match next_premise(pack, work, class, words, cells, s, t, env, u, i) {
+            Taken::On(more, x) => {
                 instances[i] = x.0;
-                graph = h;
-                known = fresh;
-                from = to;
-                copies = noted;
+                t = more;
                 i += 1;
             }
-            Taken::Clash => {
-                return Premised::Clash;
-            }
-            Taken::Short => {
-                return Premised::Short;
+            Taken::Refused(x) => {
+                return Premised::Refused(x);
             }
         }
     }
-    Premised::On(graph, known, from, copies)
+    Premised::On(t)
 }

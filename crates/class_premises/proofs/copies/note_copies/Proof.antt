@@ -36,5 +36,5 @@ note-copies-spec =
     (λ c. search needs)
     (λ c. search needs)
     loop-again
-    (λ c. search needs)
+    (λ c. search)
     returns)

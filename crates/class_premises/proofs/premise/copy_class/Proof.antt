@@ -34,6 +34,6 @@ copy-class-spec =
     (λ c. search needs)
     (λ c. search needs)
     copy-requires
-    (λ c. search needs)
-    (λ c. search needs)
+    (λ c. search)
+    (λ c. search)
     returns)

@@ -20,9 +20,9 @@ note-copies-requires c κs =
 returns : tie.Need-returns
 unfolding part
 returns c =
-    let J = c .before .before .before .before .before .before .before .before .before .before .before .before .pre in
-    let U = rw (c .before .before .before .before .enum-told .given .1) at (c .before .before .before .before .before .before .before .before .unify .ensures) in
-    let N = c .before .before .note-copies .ensures in
+    let J = c .before .before .before .before .before .before .before .before .before .before .before .before .before .pre in
+    let U = rw (c .before .before .before .before .before .enum-told .given .1) at (c .before .before .before .before .before .before .before .before .before .unify .ensures) in
+    let N = c .before .before .before .note-copies .ensures in
     (refl, refl, refl, refl, joins-noted _ _ _ _ _ _ _ _ J _ (U .1) _ _ N, joins-on _ _ _ _ _ _ _ _ J _ (U .1) _ _ N _ U)
 
 returns-2 : tie.Need-returns-2
@@ -30,7 +30,7 @@ unfolding part
 returns-2 c =
     let a = c .before .before .before .before .before .before .before .before .args in
     let U = rw (c .enum-told2 .given .1) at (c .before .before .before .before .unify .ensures) in
-    joins-clash (a .work .now) (a .cells .now) (a .l) _ _ _ _ _ U
+    (refl, joins-clash (a .work .now) (a .cells .now) (a .l) _ _ _ _ _ U)
 
 pub join-premise-spec : {M : Type 1} → statement M
 join-premise-spec =
@@ -49,5 +49,5 @@ join-premise-spec =
     (λ c. search needs)
     (λ c. search needs)
     returns
-    (λ c. search needs)
+    (λ c. search)
     returns-2)

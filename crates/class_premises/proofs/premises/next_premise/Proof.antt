@@ -32,7 +32,7 @@ slice-read-row : tie.Need-slice-read-row
 slice-read-row c = place-asked _ _ _ _ _ _ _ _ _ _ _ _ _ _ _ _ (c .before .before .before .before .before .before .before .before .before .before .before .before .before .pre) _ (c .before .before .before .before .before .step-ref .ensures) _ (c .before .before .before .first-of .ensures)
 
 cast-row : tie.Need-cast-row
-cast-row c = record { fits = omega (arith, c .slice-known3 .given (c .before .before .before .before .before .before .before .before .before .before .before .before .before .args .l .rows + getD (c .before .before .before .before .before .before .before .before .before .before .before .before .before .args .class .now) (c .before .before .before .first-of .result) 0)) }
+cast-row c = record { fits = omega (arith, c .slice-known3 .given (c .before .before .before .before .before .before .before .before .before .before .before .before .before .args .s .layout .rows + getD (c .before .before .before .before .before .before .before .before .before .before .before .before .before .args .class .now) (c .before .before .before .first-of .result) 0)) }
 
 take-premise-requires : tie.Need-take-premise-requires
 take-premise-requires c κs = premise-asked _ _ _ _ _ _ _ _ _ _ _ _ _ _ _ _ (c .before .before .before .before .before .before .before .before .before .before .before .before .before .before .before .pre) _ (c .before .before .before .before .before .before .before .step-ref .ensures) _ (c .before .before .before .before .before .first-of .ensures)
@@ -55,6 +55,6 @@ next-premise-spec =
     slice-read-row
     cast-row
     take-premise-requires
-    (λ c. search needs)
-    (λ c. search needs)
+    (λ c. search)
+    (λ c. search)
     returns)

@@ -1,0 +1,27 @@
+-- What lies in the buffers that are lent, and what is at hand with another store and memo.
+use mathlib.Core.List.{List}
+use Prim.Native.Nat.{ℕ}
+use Rattle.memo.specs.declared.memo.Memo.{Memo}
+use Rattle.store.specs.declared.nodes.Store.{Store}
+use Rattle.class_premises.specs.declared.building.Building.{Building}
+
+-- the pack's bytes, and the words of the buffers in document 01's order
+pub record Buffers : Type 0 where
+  -- the bytes of the pack
+  pub pack : List ℕ
+  -- the words of the steps' classes and the classes' rows
+  pub class : List ℕ
+  -- the words of all patterns
+  pub pattern : List ℕ
+  -- the cells of one class's term graph
+  pub graph : List ℕ
+  -- all tables
+  pub work : List ℕ
+
+-- these five
+abbrev pub lent : List ℕ → List ℕ → List ℕ → List ℕ → List ℕ → Buffers
+lent pack class pattern graph work = record { pack = pack; class = class; pattern = pattern; graph = graph; work = work }
+
+-- the same places with another store and memo, filled further
+abbrev pub onward : Building → Store → Memo → ℕ → Building
+onward s st memo fill = record { catalog = s .catalog; keying = s .keying; layout = s .layout; store = st; memo = memo; fill = fill }
