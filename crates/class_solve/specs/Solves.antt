@@ -1,20 +1,18 @@
 -- A rule's variables opened and its premises solved: what the definition's run comes to behind the values.
 use mathlib.Core.Path.{_≡_, refl, sym, _∙_, subst}
-use mathlib.Core.Bool.{true, false}
 use mathlib.Core.List.{List}
-use mathlib.Core.Option.{none}
 use Prim.Native.Nat.{ℕ, _+_, _-_, _≤_, _<_}
 use native.Mathlib.Omega.{arith}
 use lib.ListN.{length}
 use Rattle.definition.specs.Pack.{Pack, ruleOf}
 use Rattle.definition.specs.Frame.{fine, refuse}
 use Rattle.definition.specs.Answer.{Lent}
-use Rattle.definition.specs.Run.{outcome}
+use Rattle.definition.specs.Run.{Run, _>>=_, outcome}
 use Rattle.definition.specs.Keys.{keyed as keysOf}
-use Rattle.definition.specs.Graph.{Graph, upTo, cells as cellsOf, circular}
+use Rattle.definition.specs.Graph.{Graph, upTo, cells as cellsOf}
 use Rattle.definition.specs.Classes.{Built, Premises}
 use Rattle.definition.specs.declared.Refusal.{Refusal}
-use Rattle.definition.specs.declared.Refusal.the-variants.{Clash as Clashes, Circle as Circles, Instance, Short as TooShort}
+use Rattle.definition.specs.declared.Refusal.the-variants.{Short as TooShort}
 use Rattle.theory.specs.Copies.Variables.{length-of}
 use Rattle.base.specs.Part.{part}
 use Rattle.base.specs.Outside.{Outside, outside-then, outside-wider, part-ahead}
@@ -32,16 +30,20 @@ use Rattle.term_instantiate.specs.declared.variables.Opened.the-variants as ope
 use Rattle.class_keys.specs.declared.classes.Keying.{Keying}
 use Rattle.class_keys.specs.declared.classes.Counts.{Counts as KeyCounts}
 use Rattle.theory.specs.Making.FewArgs.{few-variables}
+use Rattle.theory.specs.Making.Runs.{outcome-fine, outcome-refuse}
 use Rattle.class_premises.specs.Layout.{placeOf, memoIn, tableIn}
 use Rattle.class_premises.specs.declared.layout.Layout.{Layout}
 use Rattle.class_premises.specs.declared.premises.Ruling.{Ruling}
+use Rattle.class_premises.specs.declared.premise.Reached.{Reached}
+use Rattle.class_premises.specs.declared.building.Building.{Building}
+use Rattle.class_premises.specs.Buffers.{Buffers}
 use Rattle.class_premises.specs.declared.premises.Premised.the-variants as premised
 use Rattle.class_premises.specs.Given.{Ruled, refsOf, takes}
 use Rattle.class_premises.specs.AllPremises.{start, allOf, Begun, Starting, TakesAll}
 use Rattle.class_premises.specs.Standing.{Standing, standing-held, standing-behind, standing-on, standing-cells}
 use Rattle.class_solve.specs.declared.solve.Solved.{Solved}
-use Rattle.class_solve.specs.declared.solve.Solved.the-variants.{On, Clash, Circle, Differs, Short}
-use Rattle.class_solve.specs.Stages.{valuesOf, rest, staged, staged-short, staged-refused, staged-on, behind-circle, behind-differs, behind-on}
+use Rattle.class_solve.specs.declared.solve.Solved.the-variants.{On, Refused}
+use Rattle.class_solve.specs.Stages.{rest, behind, staged, staged-short, staged-from, staged-on, behind-on}
 use Rattle.class_solve.specs.Valuing.{Taken, Valuing, Valued-as, Values}
 
 -- ---- from the rule's variables on
@@ -58,41 +60,42 @@ abbrev pub Whatever : List ℕ → List ℕ → List ℕ → List ℕ → List �
 Whatever bytes work class words cells c k l st memo g env u F =
     (r : KeyCounts) (fill : ℕ) (P : Pack) (b : Built) (h : Graph) → Begun bytes work class words cells c k l r st memo fill g env u P b h → F r fill P b h
 
+-- the run from the premises on
+abbrev pub premisedRun : Pack → Built → Ruling → Graph → Run Built
+premisedRun P b u h = takes P b u (allOf P u) (refsOf P u) (start h) >>= behind P (u .step) b (u .rule) (u .vars)
+
 abbrev pub SolvesFrom : List ℕ → List ℕ → List ℕ → List ℕ → List ℕ → List ℕ → List ℕ → Catalog → Keying → Layout → Store → Memo → Counts → List ℕ → Ruling → Solved → Type 0
-SolvesFrom bytes work work′ class words cells cells′ c k l st memo g env u (On g′ memo′ from copies) =
-    Outside (l .copied) (l .end) work work′ × Whatever bytes work class words cells c k l st memo g env u (λ r fill P b h. From bytes work′ class words cells cells′ c k l r st memo′ fill g′ env u from copies P b h)
-SolvesFrom bytes work work′ class words cells cells′ c k l st memo g env u Clash =
-    Whatever bytes work class words cells c k l st memo g env u (λ r fill P b h. (L : Lent) → L .graph ≡ length cells → outcome L (takes P b u (allOf P u) (refsOf P u) (start h)) ≡ refuse (Clashes (u .step)))
-SolvesFrom bytes work work′ class words cells cells′ c k l st memo g env u Circle =
-    Whatever bytes work class words cells c k l st memo g env u (λ r fill P b h. (ps : Premises) × ((L : Lent) → L .graph ≡ length cells → outcome L (takes P b u (allOf P u) (refsOf P u) (start h)) ≡ fine ps) × (circular (ps .graph) ≡ true))
-SolvesFrom bytes work work′ class words cells cells′ c k l st memo g env u Differs =
-    Whatever bytes work class words cells c k l st memo g env u
-    (λ r fill P b h. (ps : Premises) × ((L : Lent) → L .graph ≡ length cells → outcome L (takes P b u (allOf P u) (refsOf P u) (start h)) ≡ fine ps) × (circular (ps .graph) ≡ false) × (valuesOf P ps ≡ none))
-SolvesFrom bytes work work′ class words cells cells′ c k l st memo g env u Short =
-    Whatever bytes work class words cells c k l st memo g env u (λ r fill P b h. (L : Lent) → L .graph ≡ length cells → outcome L (takes P b u (allOf P u) (refsOf P u) (start h)) ≡ refuse (TooShort 3))
+SolvesFrom bytes work work′ class words cells cells′ c k l st memo g env u (On t) =
+    Outside (l .copied) (l .end) work work′
+    × Whatever bytes work class words cells c k l st memo g env u (λ r fill P b h. From bytes work′ class words cells cells′ c k l r st (t .memo) fill (t .graph) env u (t .from) (t .copies) P b h)
+SolvesFrom bytes work work′ class words cells cells′ c k l st memo g env u (Refused z) =
+    Whatever bytes work class words cells c k l st memo g env u (λ r fill P b h. (L : Lent) → L .graph ≡ length cells → outcome L (premisedRun P b u h) ≡ refuse z)
+
+-- the same of buffers that are lent and what is at hand
+abbrev pub SolvesFromIn : Buffers → Buffers → Building → Counts → List ℕ → Ruling → Solved → Type 0
+SolvesFromIn B B′ s g env u r =
+    SolvesFrom (B .pack) (B .work) (B′ .work) (B .class) (B .pattern) (B .graph) (B′ .graph) (s .catalog) (s .keying) (s .layout) (s .store) (s .memo) g env u r
 
 module _ (bytes work class words cells : List ℕ) (c : Catalog) (k : Keying) (l : Layout) (st : Store) (memo : Memo) (g : Counts) (env : List ℕ) (u : Ruling) (instances : List ℕ)
     (T : Starting bytes work class words cells c k l st memo g env u instances) (work₁ cells₁ instances₁ : List ℕ) (more : length instances₁ ≡ length instances) where
-  pub from-short : (work′ cells′ : List ℕ) → TakesAll bytes work work₁ class words cells cells₁ c k l st memo g env u instances₁ premised.Short → SolvesFrom bytes work work′ class words cells cells′ c k l st memo g env u Short
-  from-short work′ cells′ A = A
+  pub from-refused : (work′ cells′ : List ℕ) (z : Refusal) → TakesAll bytes work work₁ class words cells cells₁ c k l st memo g env u instances₁ (premised.Refused z)
+      → SolvesFrom bytes work work′ class words cells cells′ c k l st memo g env u (Refused z)
+  from-refused work′ cells′ z A r fill P b h B L e = outcome-refuse L (takes P b u (allOf P u) (refsOf P u) (start h)) (behind P (u .step) b (u .rule) (u .vars)) z (A r fill P b h B L e)
 
-  pub from-clash : (work′ cells′ : List ℕ) → TakesAll bytes work work₁ class words cells cells₁ c k l st memo g env u instances₁ premised.Clash → SolvesFrom bytes work work′ class words cells cells′ c k l st memo g env u Clash
-  from-clash work′ cells′ A = A
-
-  module _ (g₁ : Counts) (memo₁ : Memo) (from copies : ℕ) (A : TakesAll bytes work work₁ class words cells cells₁ c k l st memo g env u instances₁ (premised.On g₁ memo₁ from copies)) where
+  module _ (t : Reached) (A : TakesAll bytes work work₁ class words cells cells₁ c k l st memo g env u instances₁ (premised.On t)) where
     taken : (r : KeyCounts) (fill : ℕ) (P : Pack) (b : Built) (h : Graph) → (B : Begun bytes work class words cells c k l r st memo fill g env u P b h)
-        → Taken bytes work₁ class words cells₁ c k l r st memo₁ fill g₁ env u instances₁ from copies P b (A .1 r fill P b h B .refs) (A .1 r fill P b h B .state)
+        → Taken bytes work₁ class words cells₁ c k l r st (t .memo) fill (t .graph) env u instances₁ (t .from) (t .copies) P b (A .1 r fill P b h B .refs) (A .1 r fill P b h B .state)
     taken r fill P b h B =
         let D = A .1 r fill P b h B in
         record { here = D .here; instances-are = D .instances; judgments = D .judgments; room = omega (arith, T .room) }
 
-    pub from-valuing : Valuing bytes work₁ class words cells₁ c k l st memo₁ g₁ env u instances₁ from copies
+    pub from-valuing : Valuing bytes work₁ class words cells₁ c k l st (t .memo) (t .graph) env u instances₁ (t .from) (t .copies)
     from-valuing =
         let D = A .1 (T .counts) (T .fill) (T .pack) (T .built) (T .graph) (T .begun) in
         record { counts = T .counts; fill = T .fill; pack = T .pack; built = T .built; refs = D .refs; state = D .state; taken = taken (T .counts) (T .fill) (T .pack) (T .built) (T .graph) (T .begun) }
 
-    pub from-values : (work′ : List ℕ) (s : Solved) → Values bytes work₁ work′ class words cells₁ c k l st memo₁ g₁ env u instances₁ from copies s → SolvesFrom bytes work work′ class words cells cells₁ c k l st memo g env u s
-    from-values work′ (On g′ memo′ from′ copies′) V′ = (
+    pub from-values : (work′ : List ℕ) (s : Solved) → Values bytes work₁ work′ class words cells₁ c k l st (t .memo) (t .graph) env u instances₁ (t .from) (t .copies) s → SolvesFrom bytes work work′ class words cells cells₁ c k l st memo g env u s
+    from-values work′ (On t′) V′ = (
       outside-then (l .copied) (l .end) work work₁ work′ (A .0) (V′ .4),
       λ r fill P b h B.
           let D = A .1 r fill P b h B in
@@ -101,17 +104,16 @@ module _ (bytes work class words cells : List ℕ) (c : Catalog) (k : Keying) (l
             refs = D .refs;
             state = D .state;
             valued =
-                subst (λ (x : Counts). Valued-as bytes work′ class words cells₁ c k l r st memo′ fill x env u from′ copies′ P b (D .refs) (D .state)) (sym (V′ .0))
-                (subst (λ (x : Memo). Valued-as bytes work′ class words cells₁ c k l r st x fill g₁ env u from′ copies′ P b (D .refs) (D .state)) (sym (V′ .1))
-                (subst (λ (x : ℕ). Valued-as bytes work′ class words cells₁ c k l r st memo₁ fill g₁ env u x copies′ P b (D .refs) (D .state)) (sym (V′ .2))
-                (subst (λ (x : ℕ). Valued-as bytes work′ class words cells₁ c k l r st memo₁ fill g₁ env u from x P b (D .refs) (D .state)) (sym (V′ .3)) W)));
+                subst (λ (x : Counts). Valued-as bytes work′ class words cells₁ c k l r st (t′ .memo) fill x env u (t′ .from) (t′ .copies) P b (D .refs) (D .state)) (sym (V′ .0))
+                (subst (λ (x : Memo). Valued-as bytes work′ class words cells₁ c k l r st x fill (t .graph) env u (t′ .from) (t′ .copies) P b (D .refs) (D .state)) (sym (V′ .1))
+                (subst (λ (x : ℕ). Valued-as bytes work′ class words cells₁ c k l r st (t .memo) fill (t .graph) env u x (t′ .copies) P b (D .refs) (D .state)) (sym (V′ .2))
+                (subst (λ (x : ℕ). Valued-as bytes work′ class words cells₁ c k l r st (t .memo) fill (t .graph) env u (t .from) x P b (D .refs) (D .state)) (sym (V′ .3)) W)));
             is = D .is;
           },
     )
-    from-values work′ Clash V′ = absurd V′
-    from-values work′ Circle V′ = λ r fill P b h B. let D = A .1 r fill P b h B in (D .state, D .is, V′ r fill P b (D .refs) (D .state) (taken r fill P b h B))
-    from-values work′ Differs V′ = λ r fill P b h B. let D = A .1 r fill P b h B in let W = V′ r fill P b (D .refs) (D .state) (taken r fill P b h B) in (D .state, D .is, W .0, W .1)
-    from-values work′ Short V′ = absurd V′
+    from-values work′ (Refused z) V′ = λ r fill P b h B L e.
+        let D = A .1 r fill P b h B in
+        outcome-fine L (takes P b u (allOf P u) (refsOf P u) (start h)) (behind P (u .step) b (u .rule) (u .vars)) (D .state) (D .is L e) ∙ V′ r fill P b (D .refs) (D .state) (taken r fill P b h B) L
 
 -- ---- the whole of it
 -- what is asked: what was built stands, and the step makes the next class
@@ -144,12 +146,17 @@ Refuses bytes work class words cells c k l st memo u x =
     Of bytes work class words cells c k l st memo u (λ r fill P b. (L : Lent) → L .graph ≡ length cells → outcome L (staged P (u .step) (keysOf P .words) b (u .rule) (u .vars)) ≡ refuse x)
 
 abbrev pub Solves : List ℕ → List ℕ → List ℕ → List ℕ → List ℕ → List ℕ → List ℕ → Catalog → Keying → Layout → Store → Memo → List ℕ → Ruling → Solved → Type 0
-Solves bytes work work′ class words cells cells′ c k l st memo env u (On g′ memo′ from copies) =
-    Outside (l .copied) (l .end) work work′ × Of bytes work class words cells c k l st memo u (λ r fill P b. Ready bytes work′ class words cells cells′ c k l r st memo′ fill g′ env u from copies P b)
-Solves bytes work work′ class words cells cells′ c k l st memo env u Clash = Refuses bytes work class words cells c k l st memo u (Clashes (u .step))
-Solves bytes work work′ class words cells cells′ c k l st memo env u Circle = Refuses bytes work class words cells c k l st memo u (Circles (u .step))
-Solves bytes work work′ class words cells cells′ c k l st memo env u Differs = Refuses bytes work class words cells c k l st memo u (Instance (u .step))
-Solves bytes work work′ class words cells cells′ c k l st memo env u Short = Refuses bytes work class words cells c k l st memo u (TooShort 3)
+Solves bytes work work′ class words cells cells′ c k l st memo env u (On t) =
+    Outside (l .copied) (l .end) work work′
+    × Of bytes work class words cells c k l st memo u (λ r fill P b. Ready bytes work′ class words cells cells′ c k l r st (t .memo) fill (t .graph) env u (t .from) (t .copies) P b)
+Solves bytes work work′ class words cells cells′ c k l st memo env u (Refused z) = Refuses bytes work class words cells c k l st memo u z
+
+-- both of buffers that are lent and what is at hand
+abbrev pub SolvingIn : Buffers → Building → List ℕ → Ruling → List ℕ → Type 0
+SolvingIn B s env u instances = Solving (B .pack) (B .work) (B .class) (B .pattern) (B .graph) (s .catalog) (s .keying) (s .layout) (s .store) (s .memo) env u instances
+
+abbrev pub SolvesIn : Buffers → Buffers → Building → List ℕ → Ruling → Solved → Type 0
+SolvesIn B B′ s env u r = Solves (B .pack) (B .work) (B′ .work) (B .class) (B .pattern) (B .graph) (B′ .graph) (s .catalog) (s .keying) (s .layout) (s .store) (s .memo) env u r
 
 module _ (bytes work class words cells : List ℕ) (c : Catalog) (k : Keying) (l : Layout) (st : Store) (memo : Memo) (env : List ℕ) (u : Ruling) (instances : List ℕ) (Z : Solving bytes work class words cells c k l st memo env u instances) where
   rule-there : (P : Pack) (b : Built) (r : KeyCounts) (fill : ℕ) → Standing bytes work class words cells c k l r st memo fill P b → Ruled P b u → u .rule < length (P .rules)
@@ -175,7 +182,7 @@ module _ (bytes work class words cells : List ℕ) (c : Catalog) (k : Keying) (l
       }
 
   -- there is no room for them
-  pub solves-full : (work₁ cells₁ work′ cells′ : List ℕ) → Opens bytes work work₁ cells cells₁ c (placeOf l (u .rule) (u .vars)) opened.Short → Solves bytes work work′ class words cells cells′ c k l st memo env u Short
+  pub solves-full : (work₁ cells₁ work′ cells′ : List ℕ) → Opens bytes work work₁ cells cells₁ c (placeOf l (u .rule) (u .vars)) opened.Short → Solves bytes work work′ class words cells cells′ c k l st memo env u (Refused (TooShort 3))
   solves-full work₁ cells₁ work′ cells′ O r fill P b S R L e = staged-short P (u .step) (keysOf P .words) b (u .rule) (u .vars) L (omega (arith, O P (S .reads) (S .proper) (R .vars), e))
 
   module _ (g : Counts) (work₁ cells₁ : List ℕ) (O : Opens bytes work work₁ cells cells₁ c (placeOf l (u .rule) (u .vars)) (opened.On g)) (long : length cells₁ ≡ length cells) where
@@ -225,7 +232,7 @@ module _ (bytes work class words cells : List ℕ) (c : Catalog) (k : Keying) (l
     }
 
     pub solves-from : (work′ cells′ : List ℕ) (s : Solved) → SolvesFrom bytes work₁ work′ class words cells₁ cells′ c k l st memo g env u s → Solves bytes work work′ class words cells cells′ c k l st memo env u s
-    solves-from work′ cells′ (On g′ memo′ from copies) F = (
+    solves-from work′ cells′ (On t) F = (
       outside-then (l .copied) (l .end) work work₁ work′
           (outside-wider (l .graph) (l .graph + rowsEnd cells) (l .copied) (l .end) work work₁ low (let S = Z .standing .placed .laid in omega (arith, S .table)) outside) (F .0),
       λ r fill P b S R.
@@ -239,13 +246,5 @@ module _ (bytes work class words cells : List ℕ) (c : Catalog) (k : Keying) (l
                 ∙ behind-on P (u .step) (keysOf P .words) b (u .rule) (u .vars) L (X .state) (X .valued .ends) (X .valued .values) (X .valued .is);
           },
     )
-    solves-from work′ cells′ Clash F = λ r fill P b S R L e.
-        staged-refused P (u .step) (keysOf P .words) b (u .rule) (u .vars) L (omega (arith, room-for r fill P b S R, e)) (Clashes (u .step)) (F r fill P b (variablesOf (ruleOf P (u .rule) .vars)) (begun r fill P b S R) L (e ∙ sym long))
-    solves-from work′ cells′ Circle F = λ r fill P b S R L e.
-        let X = F r fill P b (variablesOf (ruleOf P (u .rule) .vars)) (begun r fill P b S R) in
-        staged-on P (u .step) (keysOf P .words) b (u .rule) (u .vars) L (omega (arith, room-for r fill P b S R, e)) (X .0) (X .1 L (e ∙ sym long)) ∙ behind-circle P (u .step) (keysOf P .words) b (u .rule) (u .vars) L (X .0) (X .2)
-    solves-from work′ cells′ Differs F = λ r fill P b S R L e.
-        let X = F r fill P b (variablesOf (ruleOf P (u .rule) .vars)) (begun r fill P b S R) in
-        staged-on P (u .step) (keysOf P .words) b (u .rule) (u .vars) L (omega (arith, room-for r fill P b S R, e)) (X .0) (X .1 L (e ∙ sym long)) ∙ behind-differs P (u .step) (keysOf P .words) b (u .rule) (u .vars) L (X .0) (X .2) (X .3)
-    solves-from work′ cells′ Short F = λ r fill P b S R L e.
-        staged-refused P (u .step) (keysOf P .words) b (u .rule) (u .vars) L (omega (arith, room-for r fill P b S R, e)) (TooShort 3) (F r fill P b (variablesOf (ruleOf P (u .rule) .vars)) (begun r fill P b S R) L (e ∙ sym long))
+    solves-from work′ cells′ (Refused z) F = λ r fill P b S R L e.
+        staged-from P (u .step) (keysOf P .words) b (u .rule) (u .vars) L (omega (arith, room-for r fill P b S R, e)) ∙ F r fill P b (variablesOf (ruleOf P (u .rule) .vars)) (begun r fill P b S R) L (e ∙ sym long)

@@ -15,10 +15,9 @@ use Rattle.definition.specs.Graph.{Graph, Grown, vertex, cells, circular, upTo}
 use Rattle.definition.specs.Analysis.{instantiate, valued, Resolved, resolve}
 use Rattle.definition.specs.Keys.{firstOf}
 use Rattle.definition.specs.Classes.{Class, Built, Premises, takePremises, countOf, isFixed, addClass, makeRule}
-use Rattle.definition.specs.declared.Refusal.{Refusal}
 use Rattle.definition.specs.declared.Refusal.the-variants.{Circle, Instance, Short}
 use Rattle.term_instantiate.specs.Variables.{variablesOf}
-use Rattle.theory.specs.Making.Runs.{outcome-note, outcome-short, outcome-some, outcome-none, outcome-holds, outcome-fails, outcome-fine, outcome-refuse}
+use Rattle.theory.specs.Making.Runs.{outcome-note, outcome-short, outcome-some, outcome-none, outcome-holds, outcome-fails, outcome-fine}
 use Rattle.class_premises.specs.AllPremises.{start}
 
 -- the conclusion's instance, behind the premises' graph
@@ -88,9 +87,9 @@ module _ (P : Pack) (s : ℕ) (words : List ℕ) (b : Built) (r n : ℕ) (L : Le
   staged-short h = outcome-short L 3 (cells vars) _ h
 
   module _ (room : cells vars ≤ L .graph) where
-    pub staged-refused : (x : Refusal) → outcome L premises ≡ refuse x → outcome L (staged P s words b r n) ≡ refuse x
+    pub staged-from : outcome L (staged P s words b r n) ≡ outcome L (premises >>= behind P s b r n)
     unfolding staged lengthOf
-    staged-refused x e = outcome-note L 3 (cells vars) _ room ∙ outcome-refuse L premises _ x e
+    staged-from = outcome-note L 3 (cells vars) _ room
 
     pub staged-on : (ps : Premises) → outcome L premises ≡ fine ps → outcome L (staged P s words b r n) ≡ outcome L (behind P s b r n ps)
     unfolding staged lengthOf

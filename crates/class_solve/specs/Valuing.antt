@@ -16,6 +16,10 @@ use Rattle.definition.specs.Keys.{firstOf}
 use Rattle.definition.specs.Graph.{circular}
 use Rattle.definition.specs.Analysis.{valued}
 use Rattle.definition.specs.Classes.{Built, Premises}
+use Rattle.definition.specs.Frame.{refuse}
+use Rattle.definition.specs.Answer.{Lent}
+use Rattle.definition.specs.Run.{outcome}
+use Rattle.definition.specs.declared.Refusal.the-variants.{Circle, Instance}
 use Rattle.theory.specs.Keys.Needed.{first-judgment}
 use Rattle.base.specs.Lent.{back as lent-back, back-first}
 use Rattle.base.specs.Part.{part, put, length-part}
@@ -41,6 +45,9 @@ use Rattle.class_premises.specs.Layout.{tableIn, copiesAt}
 use Rattle.class_premises.specs.Joins.{copiesIn}
 use Rattle.class_premises.specs.declared.layout.Layout.{Layout}
 use Rattle.class_premises.specs.declared.premises.Ruling.{Ruling}
+use Rattle.class_premises.specs.declared.premise.Reached.{Reached}
+use Rattle.class_premises.specs.declared.building.Building.{Building}
+use Rattle.class_premises.specs.Buffers.{Buffers}
 use Rattle.class_premises.specs.Given.{refsOf}
 use Rattle.class_premises.specs.Next.{Here}
 use Rattle.class_premises.specs.AllPremises.{judged}
@@ -49,8 +56,8 @@ use Rattle.class_solve.specs.AllValues.{judgmentsTo, Starting, GivesAll}
 use Rattle.theory.specs.Making.Values.{Grounded, valued-grounded}
 use Rattle.theory.specs.Making.Firsts.{firsts-given, judgments-given}
 use Rattle.class_solve.specs.declared.solve.Solved.{Solved}
-use Rattle.class_solve.specs.declared.solve.Solved.the-variants.{On, Clash, Circle, Differs, Short}
-use Rattle.class_solve.specs.Stages.{valuesOf}
+use Rattle.class_solve.specs.declared.solve.Solved.the-variants.{On, Refused}
+use Rattle.class_solve.specs.Stages.{valuesOf, behind, behind-circle, behind-differs}
 
 -- all premises are taken
 pub record Taken (bytes work class words cells : List ℕ) (c : Catalog) (k : Keying) (l : Layout) (r : KeyCounts) (st : Store) (memo : Memo) (fill : ℕ) (g : Counts) (env : List ℕ) (u : Ruling) (instances : List ℕ) (from copies : ℕ)
@@ -87,14 +94,20 @@ Whatever bytes work class words cells c k l st memo g env u instances from copie
 
 -- what is answered
 abbrev pub Values : List ℕ → List ℕ → List ℕ → List ℕ → List ℕ → List ℕ → Catalog → Keying → Layout → Store → Memo → Counts → List ℕ → Ruling → List ℕ → ℕ → ℕ → Solved → Type 0
-Values bytes work work′ class words cells c k l st memo g env u instances from copies (On g′ memo′ from′ copies′) =
-    (g′ ≡ g) × (memo′ ≡ memo) × (from′ ≡ from) × (copies′ ≡ copies) × Outside (l .copied) (l .end) work work′
+Values bytes work work′ class words cells c k l st memo g env u instances from copies (On t) =
+    (t .graph ≡ g) × (t .memo ≡ memo) × (t .from ≡ from) × (t .copies ≡ copies) × Outside (l .copied) (l .end) work work′
     × Whatever bytes work class words cells c k l st memo g env u instances from copies (λ r fill P b refs ps. Valued-as bytes work′ class words cells c k l r st memo fill g env u from copies P b refs ps)
-Values bytes work work′ class words cells c k l st memo g env u instances from copies Circle = Whatever bytes work class words cells c k l st memo g env u instances from copies (λ r fill P b refs ps. circular (ps .graph) ≡ true)
-Values bytes work work′ class words cells c k l st memo g env u instances from copies Differs =
-    Whatever bytes work class words cells c k l st memo g env u instances from copies (λ r fill P b refs ps. (circular (ps .graph) ≡ false) × (valuesOf P ps ≡ none))
-Values bytes work work′ class words cells c k l st memo g env u instances from copies Clash = ⊥
-Values bytes work work′ class words cells c k l st memo g env u instances from copies Short = ⊥
+Values bytes work work′ class words cells c k l st memo g env u instances from copies (Refused z) =
+    Whatever bytes work class words cells c k l st memo g env u instances from copies (λ r fill P b refs ps. (L : Lent) → outcome L (behind P (u .step) b (u .rule) (u .vars) ps) ≡ refuse z)
+
+-- both of buffers that are lent, what is at hand and what is reached
+abbrev pub ValuingIn : Buffers → Building → Reached → List ℕ → Ruling → List ℕ → Type 0
+ValuingIn B s t env u instances =
+    Valuing (B .pack) (B .work) (B .class) (B .pattern) (B .graph) (s .catalog) (s .keying) (s .layout) (s .store) (t .memo) (t .graph) env u instances (t .from) (t .copies)
+
+abbrev pub ValuesIn : Buffers → Buffers → Building → Reached → List ℕ → Ruling → List ℕ → Solved → Type 0
+ValuesIn B B′ s t env u instances r =
+    Values (B .pack) (B .work) (B′ .work) (B .class) (B .pattern) (B .graph) (s .catalog) (s .keying) (s .layout) (s .store) (t .memo) (t .graph) env u instances (t .from) (t .copies) r
 
 -- ---- the refs' judgments
 map-at : (f : ℕ → ℕ) (xs : List ℕ) (i : ℕ) → i < length xs → getD (map f xs) i 0 ≡ f (getD xs i 0)
@@ -195,10 +208,10 @@ module _ (bytes work class words cells : List ℕ) (c : Catalog) (k : Keying) (l
         values-are : valued (suc (length (ps .graph))) P (ps .graph) (take (u .premises) instances) (judgmentsTo P (u .step) (u .premises)) [] ≡ valuesOf P ps
         values-are = ap₂ (λ (xs ns : List ℕ). valued (suc (length (ps .graph))) P (ps .graph) xs ns []) (T .instances-are) judgments-are
 
-        pub values-differ : (work′ : List ℕ) → GivesAll bytes back work′ cells c v g (u .step) (u .premises) instances Unlike → (circular (ps .graph) ≡ false) × (valuesOf P ps ≡ none)
+        pub values-differ : (work′ : List ℕ) → GivesAll bytes back work′ cells c v g (u .step) (u .premises) instances Unlike → (L : Lent) → outcome L (behind P (u .step) b (u .rule) (u .vars) ps) ≡ refuse (Instance (u .step))
         unfolding part
-        values-differ work′ F =
-            (sym (told .0), sym values-are ∙ F P (standing-back .reads) (S .proper) (ps .graph) (subst (λ (t : List ℕ). Shows cells t g (ps .graph)) (sym table-back) (told .1)) (H .inner) (sym (told .0)))
+        values-differ work′ F L =
+            behind-differs P (u .step) [] b (u .rule) (u .vars) L ps (sym (told .0)) (sym values-are ∙ F P (standing-back .reads) (S .proper) (ps .graph) (subst (λ (t : List ℕ). Shows cells t g (ps .graph)) (sym table-back) (told .1)) (H .inner) (sym (told .0)))
 
         pub values-given : (work′ : List ℕ) → GivesAll bytes back work′ cells c v g (u .step) (u .premises) instances Done → Valued-as bytes work′ class words cells c k l r st memo fill g env u from copies P b refs ps
         unfolding part
@@ -252,5 +265,5 @@ module _ (bytes work class words cells : List ℕ) (c : Catalog) (k : Keying) (l
             (outside-wider (l .graph) (l .graph + (9 * length cells + 7)) (l .copied) (l .end) back work′ low (omega (arith, S .placed .laid .table)) (record { long = F .long; ahead = F .ahead; behind = F .behind }))
 
       -- there is a circle
-      pub circle-told : Tells cells (tableIn work l) table′ g true → circular (ps .graph) ≡ true
-      circle-told N = sym (N (ps .graph) (H .shows) (H .inner) .0)
+      pub circle-told : Tells cells (tableIn work l) table′ g true → (L : Lent) → outcome L (behind P (u .step) b (u .rule) (u .vars) ps) ≡ refuse (Circle (u .step))
+      circle-told N L = behind-circle P (u .step) [] b (u .rule) (u .vars) L ps (sym (N (ps .graph) (H .shows) (H .inner) .0))

@@ -68,7 +68,7 @@ value-premises-spec =
     part-circular-start
     part-circular-end
     circular-requires
-    (λ c. search needs)
+    (λ c. search)
     returns
     fix-premises-requires
     (λ c. search needs)

@@ -54,7 +54,7 @@ fix-each-spec =
     loop-less
     loop-again
     (λ c. search needs)
-    (λ c. search needs)
+    (λ c. search)
     returns
-    (λ c. search needs)
+    (λ c. search)
     returns-2)

@@ -24,5 +24,5 @@ fix-premise-spec =
     (λ c. search needs)
     step-judgment-requires
     fix-requires
-    (λ c. search needs)
+    (λ c. search)
     returns)

@@ -19,5 +19,5 @@ fix-premises-spec =
     (tie.spec
     clear-requires
     fix-each-requires
-    (λ c. search needs)
+    (λ c. search)
     returns)
