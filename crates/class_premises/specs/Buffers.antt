@@ -1,8 +1,11 @@
--- What lies in the buffers that are lent, and what is at hand with another store and memo.
+-- What lies in the buffers that are lent, and what is at hand.
 use mathlib.Core.List.{List}
 use Prim.Native.Nat.{ℕ}
 use Rattle.memo.specs.declared.memo.Memo.{Memo}
 use Rattle.store.specs.declared.nodes.Store.{Store}
+use Rattle.pack_tables.specs.declared.catalog.Catalog.{Catalog}
+use Rattle.class_keys.specs.declared.classes.Keying.{Keying}
+use Rattle.class_premises.specs.declared.layout.Layout.{Layout}
 use Rattle.class_premises.specs.declared.building.Building.{Building}
 
 -- the pack's bytes, and the words of the buffers in document 01's order
@@ -22,6 +25,10 @@ pub record Buffers : Type 0 where
 abbrev pub lent : List ℕ → List ℕ → List ℕ → List ℕ → List ℕ → Buffers
 lent pack class pattern graph work = record { pack = pack; class = class; pattern = pattern; graph = graph; work = work }
 
+-- these are at hand
+abbrev pub handed : Catalog → Keying → Layout → Store → Memo → ℕ → Building
+handed c k l st memo fill = record { catalog = c; keying = k; layout = l; store = st; memo = memo; fill = fill }
+
 -- the same places with another store and memo, filled further
 abbrev pub onward : Building → Store → Memo → ℕ → Building
-onward s st memo fill = record { catalog = s .catalog; keying = s .keying; layout = s .layout; store = st; memo = memo; fill = fill }
+onward s st memo fill = handed (s .catalog) (s .keying) (s .layout) st memo fill

@@ -1,5 +1,6 @@
 -- A class behind its premises: its conclusion and the copies' variables read back, then its row.
 use mathlib.Core.Path.{_≡_, refl, sym, ap, _∙_, subst}
+use mathlib.Core.Logic.{inl, inr}
 use mathlib.Core.Bool.{Bool, true, false}
 use mathlib.Core.List.{List, [], _∷_, _++_}
 use Prim.Native.Nat.{ℕ, suc, _+_, _*_, _-_, _≤_, _<_}
@@ -19,6 +20,7 @@ use Rattle.definition.specs.Figures.{classVars, flexVars}
 use Rattle.definition.specs.Frame.{refuse}
 use Rattle.definition.specs.Answer.{Lent}
 use Rattle.definition.specs.Run.{Run, lengthOf, outcome}
+use Rattle.definition.specs.declared.Refusal.{Refusal}
 use Rattle.definition.specs.declared.Refusal.the-variants.{Short}
 use Rattle.theory.specs.Unification.Circle.{length-upTo}
 use Rattle.base.specs.Part.{part, length-part, part-same}
@@ -45,6 +47,11 @@ use Rattle.class_premises.specs.Layout.{tableIn, copiesAt}
 use Rattle.class_premises.specs.Joins.{copiesIn}
 use Rattle.class_premises.specs.declared.layout.Layout.{Layout}
 use Rattle.class_premises.specs.declared.premises.Ruling.{Ruling}
+use Rattle.class_premises.specs.declared.premise.Reached.{Reached}
+use Rattle.class_premises.specs.declared.building.Building.{Building}
+use Rattle.class_premises.specs.declared.building.ClassMade.{ClassMade}
+use Rattle.class_premises.specs.declared.building.ClassMade.the-variants.{Made, Refused}
+use Rattle.class_premises.specs.Buffers.{Buffers, handed}
 use Rattle.class_premises.specs.Standing.{Standing, standing-cells}
 use Rattle.class_premises.specs.Added.{builtWith, add-short-patterns, add-short-row, add-fine}
 use Rattle.class_premises.specs.More.{standing-more}
@@ -57,12 +64,13 @@ use Rattle.class_conclude.specs.Concludes as concluded
 use Rattle.class_conclude.specs.declared.conclude.Ending.{Ending}
 use Rattle.class_conclude.specs.declared.conclude.Concluded.{Concluded}
 use Rattle.class_conclude.specs.declared.conclude.Conclusion.the-variants as conclusion
+use Rattle.class_conclude.specs.declared.conclude.Conclusion.{Conclusion}
 use Rattle.class_solve.specs.Stages.{topOf, conclusionOf, entriesOf, classOf, rest}
 use Rattle.class_solve.specs.Valuing.{Valued-as}
-use Rattle.class_rule.specs.declared.rule.RuleMade.{RuleMade}
-use Rattle.class_rule.specs.declared.rule.RuleMade.the-variants.{Made, Clash, Circle, Differs, ShortGraph, ShortPatterns, ShortRows}
+use Rattle.class_rule.specs.declared.rule.Ended.the-variants as ended
+use Rattle.class_rule.specs.Ended.{endedAs, EndsAs, ends-as}
 use Rattle.class_rule.specs.Marks.{Numbered as Marks, Writing, Writes, writes-row}
-use Rattle.class_rule.specs.Done.{Few, Done, Refused}
+use Rattle.class_rule.specs.Done.{Few, Done, Refused as RefusedRun}
 
 -- ---- what is asked and answered
 -- the premises have their values, and class i is the next
@@ -89,21 +97,24 @@ Whatever bytes work class words cells c k l st memo g env u from copies fill i F
     → F r P b (rest P b (u .rule) (u .vars) ps (Z .valued .values))
 
 -- what `add_class` answers
-abbrev pub Adds : List ℕ → List ℕ → List ℕ → List ℕ → List ℕ → List ℕ → List ℕ → List ℕ → List ℕ → Catalog → Keying → Layout → Store → Memo → Counts → List ℕ → Ruling → ℕ → ℕ → ℕ → ℕ → RuleMade → Type 0
-Adds bytes work class words cells work′ class′ words′ cells′ c k l st memo g env u from copies fill i (Made st′ memo′ fill′ f) =
-    Whatever bytes work class words cells c k l st memo g env u from copies fill i (λ r P b run. Done class words cells bytes work′ class′ words′ cells′ c k l r st′ memo′ fill′ f P b run)
-    × (words′ ≡ written (nodes words′ st′) words)
+abbrev pub Adds : List ℕ → List ℕ → List ℕ → List ℕ → List ℕ → List ℕ → List ℕ → List ℕ → List ℕ → Catalog → Keying → Layout → Store → Memo → Counts → List ℕ → Ruling → ℕ → ℕ → ℕ → ℕ → ClassMade → Type 0
+Adds bytes work class words cells work′ class′ words′ cells′ c k l st memo g env u from copies fill i (Made s′ f) =
+    (s′ ≡ handed c k l (s′ .store) (s′ .memo) (s′ .fill))
+    × Whatever bytes work class words cells c k l st memo g env u from copies fill i (λ r P b run. Done class words cells bytes work′ class′ words′ cells′ c k l r (s′ .store) (s′ .memo) (s′ .fill) f P b run)
+    × (words′ ≡ written (nodes words′ (s′ .store)) words)
     × Outside (l .rows) (l .end) work work′
-    × Outside fill fill′ class class′
-Adds bytes work class words cells work′ class′ words′ cells′ c k l st memo g env u from copies fill i Clash = ⊥
-Adds bytes work class words cells work′ class′ words′ cells′ c k l st memo g env u from copies fill i Circle = ⊥
-Adds bytes work class words cells work′ class′ words′ cells′ c k l st memo g env u from copies fill i Differs = ⊥
-Adds bytes work class words cells work′ class′ words′ cells′ c k l st memo g env u from copies fill i ShortGraph =
-    Whatever bytes work class words cells c k l st memo g env u from copies fill i (λ r P b run. Refused class words cells run (Short 3))
-Adds bytes work class words cells work′ class′ words′ cells′ c k l st memo g env u from copies fill i ShortPatterns =
-    Whatever bytes work class words cells c k l st memo g env u from copies fill i (λ r P b run. Refused class words cells run (Short 2))
-Adds bytes work class words cells work′ class′ words′ cells′ c k l st memo g env u from copies fill i ShortRows =
-    Whatever bytes work class words cells c k l st memo g env u from copies fill i (λ r P b run. Refused class words cells run (Short 1))
+    × Outside fill (s′ .fill) class class′
+Adds bytes work class words cells work′ class′ words′ cells′ c k l st memo g env u from copies fill i (Refused z) =
+    Whatever bytes work class words cells c k l st memo g env u from copies fill i (λ r P b run. RefusedRun class words cells run z)
+
+-- both of buffers that are lent, what is at hand and what is reached
+abbrev pub AddingIn : Buffers → Building → Reached → List ℕ → Ruling → ℕ → Type 0
+AddingIn B s t env u i =
+    Adding (B .pack) (B .work) (B .class) (B .pattern) (B .graph) (s .catalog) (s .keying) (s .layout) (s .store) (t .memo) (t .graph) env u (t .from) (t .copies) (s .fill) i
+
+abbrev pub AddsIn : Buffers → Buffers → Building → Reached → List ℕ → Ruling → ℕ → ClassMade → Type 0
+AddsIn B B′ s t env u i r =
+    Adds (B .pack) (B .work) (B .class) (B .pattern) (B .graph) (B′ .work) (B′ .class) (B′ .pattern) (B′ .graph) (s .catalog) (s .keying) (s .layout) (s .store) (t .memo) (t .graph) env u (t .from) (t .copies) (s .fill) i r
 
 -- ---- the definition alone
 module _ (P : Pack) (b : Built) (r n : ℕ) (ps : Premises) (vs : List Bound) (L : Lent) where
@@ -212,13 +223,13 @@ module _ (bytes work class words cells : List ℕ) (c : Catalog) (k : Keying) (l
         (subst (λ (e : List ℕ). F e (nodes words st) (copiesIn work cells l copies)) (H .env-is) x))
 
     -- the cells have no room
-    full : (work₁ words₁ cells₁ : List ℕ) → Concludes bytes work words cells work₁ words₁ cells₁ c l st g env ending conclusion.ShortGraph → Refused class words cells (rest P b (u .rule) (u .vars) ps (Z .valued .values)) (Short 3)
+    full : (work₁ words₁ cells₁ : List ℕ) → Concludes bytes work words cells work₁ words₁ cells₁ c l st g env ending conclusion.ShortGraph → RefusedRun class words cells (rest P b (u .rule) (u .vars) ps (Z .valued .values)) (Short 3)
     full work₁ words₁ cells₁ C L e =
         let h = by-definition (λ v s xs. length cells < cellsOf (concluded.topOf (ruleOf P (u .rule) .conclusion) v (ps .graph) .graph)) (C P (ruleOf P (u .rule) .conclusion) (ps .graph) vs here) in
         rest-short P b (u .rule) (u .vars) ps vs L (omega (arith, h, e .cells-long))
 
     -- the words have none
-    short : (work₁ words₁ cells₁ : List ℕ) → Concludes bytes work words cells work₁ words₁ cells₁ c l st g env ending conclusion.ShortPatterns → Refused class words cells (rest P b (u .rule) (u .vars) ps (Z .valued .values)) (Short 2)
+    short : (work₁ words₁ cells₁ : List ℕ) → Concludes bytes work words cells work₁ words₁ cells₁ c l st g env ending conclusion.ShortPatterns → RefusedRun class words cells (rest P b (u .rule) (u .vars) ps (Z .valued .values)) (Short 2)
     short work₁ words₁ cells₁ C L e =
         let t = ruleOf P (u .rule) .conclusion in
         let h = by-definition
@@ -293,7 +304,7 @@ module _ (bytes work class words cells : List ℕ) (c : Catalog) (k : Keying) (l
       fill-fits = S .rows .fits
 
       -- there is no room for the row
-      full-rows : length class - fill < 3 + q .numbered → Refused class words cells (rest P b (u .rule) (u .vars) ps (Z .valued .values)) (Short 1)
+      full-rows : length class - fill < 3 + q .numbered → RefusedRun class words cells (rest P b (u .rule) (u .vars) ps (Z .valued .values)) (Short 1)
       full-rows h L e =
           rest-read L (e .cells-long)
           ∙ add-short-row L b (nodes words₁ st₁) x (omega (arith, e .words-long, patterns-fit)) (omega (arith, h, e .class-long, many, S .filled, fill-fits))
@@ -405,15 +416,17 @@ module _ (bytes work class words cells : List ℕ) (c : Catalog) (k : Keying) (l
       here = here (K .counts) (K .pack) (K .built) (K .refs) (K .state) (K .solved);
     }
 
-    -- the cells have no room
-    pub adds-full : (work₁ words₁ cells₁ work′ class′ words′ cells′ : List ℕ) → Concludes bytes work words cells work₁ words₁ cells₁ c l st g env ending conclusion.ShortGraph
-        → Adds bytes work class words cells work′ class′ words′ cells′ c k l st memo g env u from copies fill i ShortGraph
-    adds-full work₁ words₁ cells₁ work′ class′ words′ cells′ C r P b refs ps Z = full r P b refs ps Z work₁ words₁ cells₁ C
+    -- the cells have no room, or the words have none
+    short-of : (work₁ words₁ cells₁ work′ class′ words′ cells′ : List ℕ) (z : Refusal) → EndsAs bytes work words cells work₁ words₁ cells₁ c l st g env ending (ended.Refused z)
+        → Adds bytes work class words cells work′ class′ words′ cells′ c k l st memo g env u from copies fill i (Refused z)
+    short-of work₁ words₁ cells₁ work′ class′ words′ cells′ z (inl C) r P b refs ps Z L e = full r P b refs ps Z work₁ words₁ cells₁ (C .1) L e ∙ ap refuse (sym (C .0))
+    short-of work₁ words₁ cells₁ work′ class′ words′ cells′ z (inr C) r P b refs ps Z L e = short r P b refs ps Z work₁ words₁ cells₁ (C .1) L e ∙ ap refuse (sym (C .0))
 
-    -- the words have none
-    pub adds-short : (work₁ words₁ cells₁ work′ class′ words′ cells′ : List ℕ) → Concludes bytes work words cells work₁ words₁ cells₁ c l st g env ending conclusion.ShortPatterns
-        → Adds bytes work class words cells work′ class′ words′ cells′ c k l st memo g env u from copies fill i ShortPatterns
-    adds-short work₁ words₁ cells₁ work′ class′ words′ cells′ C r P b refs ps Z = short r P b refs ps Z work₁ words₁ cells₁ C
+    pub adds-refused : (work₁ words₁ cells₁ work′ class′ words′ cells′ : List ℕ) (m : Conclusion) (z : Refusal) → endedAs m ≡ ended.Refused z → Concludes bytes work words cells work₁ words₁ cells₁ c l st g env ending m
+        → Adds bytes work class words cells work′ class′ words′ cells′ c k l st memo g env u from copies fill i (Refused z)
+    adds-refused work₁ words₁ cells₁ work′ class′ words′ cells′ m z e C =
+        short-of work₁ words₁ cells₁ work′ class′ words′ cells′ z
+        (subst (EndsAs bytes work words cells work₁ words₁ cells₁ c l st g env ending) e (ends-as bytes work words cells work₁ words₁ cells₁ c l st g env ending m C))
 
     module _ (work₁ words₁ cells₁ : List ℕ) (g₁ : Counts) (st₁ : Store) (q : Concluded) (more-words : length words₁ ≡ length words) (more-cells : length cells₁ ≡ length cells)
         (C : Concludes bytes work words cells work₁ words₁ cells₁ c l st g env ending (conclusion.Read g₁ st₁ q)) where
@@ -424,7 +437,7 @@ module _ (bytes work class words cells : List ℕ) (c : Catalog) (k : Keying) (l
           (fill-fits (K .counts) (K .pack) (K .built) (K .refs) (K .state) (K .solved) work₁ words₁ cells₁ g₁ st₁ q more-words more-cells C, R .numbered, K .solved .valued .here .shows .laid .small)
 
       -- there is no room for the row
-      pub adds-full-rows : (work′ class′ words′ cells′ : List ℕ) → length class - fill < 3 + q .numbered → Adds bytes work class words cells work′ class′ words′ cells′ c k l st memo g env u from copies fill i ShortRows
+      pub adds-full-rows : (work′ class′ words′ cells′ : List ℕ) → length class - fill < 3 + q .numbered → Adds bytes work class words cells work′ class′ words′ cells′ c k l st memo g env u from copies fill i (Refused (Short 1))
       adds-full-rows work′ class′ words′ cells′ h r P b refs ps Z = full-rows r P b refs ps Z work₁ words₁ cells₁ g₁ st₁ q more-words more-cells C h
 
       module _ (h : 3 + q .numbered ≤ length class - fill) where
@@ -434,8 +447,9 @@ module _ (bytes work class words cells : List ℕ) (c : Catalog) (k : Keying) (l
 
         -- the class is made
         pub adds : (work₂ class₂ : List ℕ) (flex : ℕ) → Writes work₁ class work₂ class₂ cells₁ k l g₁ fill i (q .pattern .0) (q .numbered) flex
-            → Adds bytes work class words cells work₂ class₂ words₁ cells₁ c k l st memo g env u from copies fill i (Made st₁ memo (fill + 3 + q .numbered) (record { vars = q .numbered; flex = flex; fixed = q .fixed; entries = q .entries; renamings = q .renamings }))
+            → Adds bytes work class words cells work₂ class₂ words₁ cells₁ c k l st memo g env u from copies fill i (Made (handed c k l st₁ memo (fill + 3 + q .numbered)) (record { vars = q .numbered; flex = flex; fixed = q .fixed; entries = q .entries; renamings = q .renamings }))
         adds work₂ class₂ flex W = (
+          refl,
           (λ r P b refs ps Z. done r P b refs ps Z work₁ words₁ cells₁ g₁ st₁ q more-words more-cells C h work₂ class₂ flex W),
           C .1,
           places (K .counts) (K .pack) (K .built) (K .refs) (K .state) (K .solved) work₁ words₁ cells₁ g₁ st₁ q more-words more-cells C h work₂ class₂ flex W,

@@ -19,7 +19,7 @@ use Rattle.class_keys.specs.declared.classes.Keying.{Keying}
 use Rattle.class_keys.specs.declared.classes.Counts.{Counts as KeyCounts}
 use Rattle.class_premises.specs.declared.layout.Layout.{Layout}
 use Rattle.class_premises.specs.Standing.{Standing}
-use Rattle.class_rule.specs.declared.rule.Counted.{Counted}
+use Rattle.class_premises.specs.declared.building.Counted.{Counted}
 
 -- these buffers are lent
 pub record Lends (L : Lent) (class words cells : List ℕ) : Type 0 where

@@ -20,6 +20,7 @@ use Rattle.class_keys.specs.ClassWords.{countIn}
 use Rattle.class_keys.specs.declared.classes.Keying.{Keying}
 use Rattle.class_premises.specs.Layout.{tableIn}
 use Rattle.class_premises.specs.declared.layout.Layout.{Layout}
+use Rattle.class_premises.specs.declared.building.Building.{Building}
 use Rattle.term_readback.specs.Words.{numbersAt, tableEnd}
 use Rattle.class_premises.specs.Row.{Beginning, Begun, Row, row-marked}
 use Rattle.class_rule.specs.Flex.{FlexAsked, MarkOf}
@@ -154,6 +155,13 @@ pub record Writes (work class work′ class′ cells : List ℕ) (k : Keying) (l
   pub marks : (h : Graph) (xs : List ℕ) → Numbered work cells l g n h xs → (j : ℕ) → j < n → getD class′ (fill + 3 + j) 0 ≡ mark (vertex h (getD xs j 0) .flex)
   pub some : flex ≤ n
   pub counted : (h : Graph) (xs : List ℕ) → Numbered work cells l g n h xs → flex ≡ countOf (λ f. f) (map (λ x. vertex h x .flex) xs)
+
+-- both of what is at hand
+abbrev pub WritingIn : List ℕ → List ℕ → List ℕ → Building → Counts → ℕ → ℕ → Type 0
+WritingIn work class cells s g i n = Writing work class cells (s .keying) (s .layout) g (s .fill) i n
+
+abbrev pub WritesIn : List ℕ → List ℕ → List ℕ → List ℕ → List ℕ → Building → Counts → ℕ → ℕ → ℕ → ℕ → Type 0
+WritesIn work class work′ class′ cells s g i conclusion n flex = Writes work class work′ class′ cells (s .keying) (s .layout) g (s .fill) i conclusion n flex
 
 -- a mark of these
 marks-at : (h : Graph) (xs : List ℕ) (j : ℕ) → j < length xs → getD (map mark (map (λ x. vertex h x .flex) xs)) j 0 ≡ mark (vertex h (getD xs j 0) .flex)

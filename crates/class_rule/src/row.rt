@@ -2,12 +2,12 @@
 use crate::flex::flex_mark;
 use base::id::Node;
 use base::id::Pattern;
-use class_keys::classes::Keying;
 use class_keys::classes::class_count;
+use class_premises::building::Building;
 use class_premises::layout::Layout;
 use class_premises::row::begin_row;
 use graph::graph::Graph;
-ghost use Rattle.class_rule.specs.Marks.{Marking, Marked, Writing, Writes};
+ghost use Rattle.class_rule.specs.Marks.{Marking, Marked, WritingIn, WritesIn};
 
 // The marks of the `n` numbered variables, from `at` on; and how many are flexible.
 fn put_flexes(
@@ -35,23 +35,21 @@ fn put_flexes(
     flex
 }
 
-// The row of class `i`, with this conclusion and the `n` numbered variables, at `fill`; and how many of these are flexible.
+// The row of class `i`, with this conclusion and the `n` numbered variables, behind the others; and how many of these are flexible.
 pub fn write_row(
     work: &mut [u32],
     class: &mut [u32],
     cells: &[u32],
-    k: Keying,
-    l: Layout,
+    s: Building,
     g: Graph,
-    fill: usize,
     i: usize,
     conclusion: Pattern,
     n: usize,
 ) -> usize
-    requires { ⌜ Writing (now work) (now class) (now cells) k l g fill i n ⌝ }
-    ensures { λ r. ⌜ Writes (now (work .entry)) (now (class .entry)) (now (work .exit)) (now (class .exit)) (now (cells .entry)) k l g fill i (conclusion .0) n r ⌝ }
+    requires { ⌜ WritingIn (now work) (now class) (now cells) s g i n ⌝ }
+    ensures { λ r. ⌜ WritesIn (now (work .entry)) (now (class .entry)) (now (work .exit)) (now (class .exit)) (now (cells .entry)) s g i (conclusion .0) n r ⌝ }
 {
-    let count = class_count(work, k, i);
-    begin_row(work, class, l, fill, i, conclusion, count, n);
-    put_flexes(work, class, cells, l, g, fill + 3, n)
+    let count = class_count(work, s.keying, i);
+    begin_row(work, class, s.layout, s.fill, i, conclusion, count, n);
+    put_flexes(work, class, cells, s.layout, g, s.fill + 3, n)
 }

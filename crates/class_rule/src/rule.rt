@@ -1,78 +1,88 @@
 // A rule's class made: its premises solved, its conclusion read back, then its row.
 use crate::row::write_row;
+use base::limit::Limit;
+use class_conclude::conclude::Concluded;
 use class_conclude::conclude::Conclusion;
 use class_conclude::conclude::Ending;
 use class_conclude::conclude::conclude;
-use class_keys::classes::Keying;
-use class_premises::layout::Layout;
+use class_premises::building::Building;
+use class_premises::building::ClassMade;
+use class_premises::building::Counted;
+use class_premises::building::go_on;
+use class_premises::premise::Reached;
 use class_premises::premises::Ruling;
 use class_solve::solve::Solved;
 use class_solve::solve::solve_premises;
+use definition::Buffer;
+use definition::Refusal;
 use graph::graph::Graph;
-use memo::memo::Memo;
-use pack_tables::catalog::Catalog;
 use store::nodes::Store;
-ghost use Rattle.class_rule.specs.Adding.{Adding, Adds};
-ghost use Rattle.class_rule.specs.Making.{Making, Makes};
+use term_instantiate::count::count_up;
+ghost use mathlib.Core.Path.{_≡_};
+ghost use Rattle.class_premises.specs.Buffers.{lent};
+ghost use Rattle.class_rule.specs.Ended.{endedAs};
+ghost use Rattle.class_rule.specs.Adding.{AddingIn, AddsIn};
+ghost use Rattle.class_rule.specs.Making.{DerivingIn, MakingIn, MakesIn};
 
-// What figures count of a class: its variables, those of them that are flexible, the fixed ones, entries and renamings.
-pub struct Counted {
-    pub vars: usize,
-    pub flex: usize,
-    pub fixed: usize,
-    pub entries: usize,
-    pub renamings: usize,
+// The graph and the store as they are then, and what was read; or why it is refused.
+enum Ended {
+    Read(Graph, Store, Concluded),
+    Refused(Refusal),
 }
 
-// The store and the copies' memo as they are then, where the class's row ends, and what figures count of it; or a premise clashes with
-// its copy; or there is a circle; or the refs' judgments are no instance; or the cells have no room; or a pattern has none; or the row.
-pub enum RuleMade {
-    Made(Store, Memo, usize, Counted),
-    Clash,
-    Circle,
-    Differs,
-    ShortGraph,
-    ShortPatterns,
-    ShortRows,
+// A conclusion, with the buffer that is short.
+fn with_refusal(c: Conclusion) -> Ended
+    ensures { λ r. ⌜ r ≡ endedAs c ⌝ }
+{
+    match c {
+        Conclusion::Read(g, st, read) => Ended::Read(g, st, read),
+        Conclusion::ShortGraph => Ended::Refused(Refusal::Short(Buffer::GRAPH)),
+        Conclusion::ShortPatterns => Ended::Refused(Refusal::Short(Buffer::PATTERN)),
+    }
 }
 
-// Class `i` behind its premises: the rule's conclusion, which starts with word `from`, and so many variables of copies read back, then the
-// row, which begins at `fill`.
+// Class `i` behind its premises: the rule's conclusion and the variables of copies read back, then the row. A refusal leaves open what
+// work, the pattern buffer and the cells hold then.
 fn add_class(
     pack: &[u8],
     work: &mut [u32],
     class: &mut [u32],
     words: &mut [u32],
     cells: &mut [u32],
-    c: Catalog,
-    k: Keying,
-    l: Layout,
-    st: Store,
-    memo: Memo,
-    g: Graph,
+    s: Building,
+    t: Reached,
     env: &[u32],
     u: Ruling,
-    from: usize,
-    copies: usize,
-    fill: usize,
     i: usize,
-) -> RuleMade
-    requires { ⌜ Adding (now pack) (now work) (now class) (now words) (now cells) c k l st memo g (now env) u from copies fill i ⌝ }
-    ensures { λ r. ⌜ Adds (now (pack .entry)) (now (work .entry)) (now (class .entry)) (now (words .entry)) (now (cells .entry)) (now (work .exit)) (now (class .exit)) (now (words .exit)) (now (cells .exit)) c k l st memo g (now (env .entry)) u from copies fill i r ⌝ }
+) -> ClassMade
+    requires { ⌜ AddingIn (lent (now pack) (now class) (now words) (now cells) (now work)) s t (now env) u i ⌝ }
+    ensures { λ r. ⌜ AddsIn (lent (now (pack .entry)) (now (class .entry)) (now (words .entry)) (now (cells .entry)) (now (work .entry))) (lent (now (pack .entry)) (now (class .exit)) (now (words .exit)) (now (cells .exit)) (now (work .exit))) s t (now (env .entry)) u i r ⌝ }
 {
     let q = Ending {
         rule: u.rule,
         vars: u.vars,
-        from: from,
-        copies: copies,
+        from: t.from,
+        copies: t.copies,
     };
-    match conclude(pack, work, words, cells, c, l, st, g, env, q) {
-        Conclusion::Read(h, more, read) => {
+    let m = conclude(
+        pack,
+        work,
+        words,
+        cells,
+        s.catalog,
+        s.layout,
+        s.store,
+        t.graph,
+        env,
+        q,
+    );
+    match with_refusal(m) {
+        Ended::Read(h, more, read) => {
             let n = read.numbered;
-            if class.len() - fill < 3 + n {
-                return RuleMade::ShortRows;
+            if class.len() - s.fill < 3 + n {
+                return ClassMade::Refused(Refusal::Short(Buffer::CLASS));
             }
-            let flex = write_row(work, class, cells, k, l, h, fill, i, read.pattern, n);
+            let flex = write_row(work, class, cells, s, h, i, read.pattern, n);
             let f = Counted {
                 vars: n,
                 flex: flex,
@@ -80,71 +90,63 @@ fn add_class(
                 entries: read.entries,
                 renamings: read.renamings,
             };
-            RuleMade::Made(more, memo, fill + 3 + n, f)
+            ClassMade::Made(go_on(s, more, t.memo, s.fill + 3 + n), f)
         }
-        Conclusion::ShortGraph => RuleMade::ShortGraph,
-        Conclusion::ShortPatterns => RuleMade::ShortPatterns,
+        Ended::Refused(x) => ClassMade::Refused(x),
     }
 }
 
-// The class of the step `u.step`, class `i`; its row begins at `fill`. `env` are the numbers below that of the rule's variables.
+// The class of the step `u.step`, class `i`: `env` are the numbers below that of the rule's variables. A refusal leaves open what work,
+// the pattern buffer and the cells hold then.
+fn derive_class(
+    pack: &[u8],
+    work: &mut [u32],
+    class: &mut [u32],
+    words: &mut [u32],
+    cells: &mut [u32],
+    s: Building,
+    env: &[u32],
+    u: Ruling,
+    instances: &mut [u32],
+    i: usize,
+) -> ClassMade
+    requires { ⌜ DerivingIn (lent (now pack) (now class) (now words) (now cells) (now work)) s (now env) u (now instances) i ⌝ }
+    ensures { λ r. ⌜ MakesIn (lent (now (pack .entry)) (now (class .entry)) (now (words .entry)) (now (cells .entry)) (now (work .entry))) (lent (now (pack .entry)) (now (class .exit)) (now (words .exit)) (now (cells .exit)) (now (work .exit))) s u i r ⌝ }
+{
+    match solve_premises(pack, work, class, words, cells, s, env, u, instances) {
+        Solved::On(t) => add_class(pack, work, class, words, cells, s, t, env, u, i),
+        Solved::Refused(x) => ClassMade::Refused(x),
+    }
+}
+
+// The class of the step `u.step`, class `i`. A refusal leaves open what work, the pattern buffer and the cells hold then.
 pub fn make_rule(
     pack: &[u8],
     work: &mut [u32],
     class: &mut [u32],
     words: &mut [u32],
     cells: &mut [u32],
-    c: Catalog,
-    k: Keying,
-    l: Layout,
-    st: Store,
-    memo: Memo,
-    env: &[u32],
+    s: Building,
     u: Ruling,
-    instances: &mut [u32],
-    fill: usize,
     i: usize,
-) -> RuleMade
-    requires { ⌜ Making (now pack) (now work) (now class) (now words) (now cells) c k l st memo (now env) u (now instances) fill i ⌝ }
-    ensures { λ r. ⌜ Makes (now (pack .entry)) (now (work .entry)) (now (class .entry)) (now (words .entry)) (now (cells .entry)) (now (work .exit)) (now (class .exit)) (now (words .exit)) (now (cells .exit)) c k l st memo u fill i r ⌝ }
+) -> ClassMade
+    requires { ⌜ MakingIn (lent (now pack) (now class) (now words) (now cells) (now work)) s u i ⌝ }
+    ensures { λ r. ⌜ MakesIn (lent (now (pack .entry)) (now (class .entry)) (now (words .entry)) (now (cells .entry)) (now (work .entry))) (lent (now (pack .entry)) (now (class .exit)) (now (words .exit)) (now (cells .exit)) (now (work .exit))) s u i r ⌝ }
 {
-    match solve_premises(
+    let n = u.vars;
+    let mut env = [0; Limit::VARIABLES];
+    count_up(&mut env, n);
+    let mut instances = [0; Limit::PREMISES];
+    derive_class(
         pack,
         work,
         class,
         words,
         cells,
-        c,
-        k,
-        l,
-        st,
-        memo,
-        env,
+        s,
+        &env[0..n],
         u,
-        instances,
-    ) {
-        Solved::On(g, known, from, copies) => add_class(
-            pack,
-            work,
-            class,
-            words,
-            cells,
-            c,
-            k,
-            l,
-            st,
-            known,
-            g,
-            env,
-            u,
-            from,
-            copies,
-            fill,
-            i,
-        ),
-        Solved::Clash => RuleMade::Clash,
-        Solved::Circle => RuleMade::Circle,
-        Solved::Differs => RuleMade::Differs,
-        Solved::Short => RuleMade::ShortGraph,
-    }
+        &mut instances,
+        i,
+    )
 }

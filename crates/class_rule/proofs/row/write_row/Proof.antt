@@ -10,19 +10,19 @@ begin-row-requires : tie.Need-begin-row-requires
 begin-row-requires c κs =
     let a = c .before .before .before .before .before .before .before .args in
     let n = c .before .before .class-count in
-    writing-begins _ _ _ _ _ _ _ _ _ (c .before .before .before .before .before .before .before .pre) _ (omega (arith, n .ensures, c .before .before .before .before .before .before .slice-known .given (a .k .at + 2 * a .k .cap + a .i)))
+    writing-begins _ _ _ _ _ _ _ _ _ (c .before .before .before .before .before .before .before .pre) _ (omega (arith, n .ensures, c .before .before .before .before .before .before .slice-known .given (a .s .keying .at + 2 * a .s .keying .cap + a .i)))
 
 put-flexes-requires : tie.Need-put-flexes-requires
 put-flexes-requires c κs =
-    let a = c .before .before .before .before .before .before .before .before .before .before .before .before .before .before .args in
-    let n = c .before .before .before .before .before .before .before .before .before .class-count in
-    writing-marks _ _ _ _ _ _ _ _ _ (c .before .before .before .before .before .before .before .before .before .before .before .before .before .before .pre) _ (omega (arith, n .ensures, c .before .before .before .before .before .before .before .before .before .before .before .before .before .slice-known .given (a .k .at + 2 * a .k .cap + a .i))) _ _ _ (c .before .before .before .before .before .before .begin-row .ensures)
+    let a = c .before .before .before .before .before .before .before .before .before .before .before .before .before .before .before .args in
+    let n = c .before .before .before .before .before .before .before .before .before .before .class-count in
+    writing-marks _ _ _ _ _ _ _ _ _ (c .before .before .before .before .before .before .before .before .before .before .before .before .before .before .before .pre) _ (omega (arith, n .ensures, c .before .before .before .before .before .before .before .before .before .before .before .before .before .before .slice-known .given (a .s .keying .at + 2 * a .s .keying .cap + a .i))) _ _ _ (c .before .before .before .before .before .before .before .begin-row .ensures)
 
 returns : tie.Need-returns
 returns c =
-    let a = c .before .before .before .before .before .before .before .before .before .before .before .before .before .before .before .before .before .args in
-    let n = c .before .before .before .before .before .before .before .before .before .before .before .before .class-count in
-    writes _ _ _ _ _ _ _ _ _ (c .before .before .before .before .before .before .before .before .before .before .before .before .before .before .before .before .before .pre) _ (omega (arith, n .ensures, c .before .before .before .before .before .before .before .before .before .before .before .before .before .before .before .before .slice-known .given (a .k .at + 2 * a .k .cap + a .i))) _ _ _ (c .before .before .before .before .before .before .before .before .before .begin-row .ensures) _ _ (n .ensures) (c .before .before .put-flexes .ensures)
+    let a = c .before .before .before .before .before .before .before .before .before .before .before .before .before .before .before .before .before .before .args in
+    let n = c .before .before .before .before .before .before .before .before .before .before .before .before .before .class-count in
+    writes _ _ _ _ _ _ _ _ _ (c .before .before .before .before .before .before .before .before .before .before .before .before .before .before .before .before .before .before .pre) _ (omega (arith, n .ensures, c .before .before .before .before .before .before .before .before .before .before .before .before .before .before .before .before .before .slice-known .given (a .s .keying .at + 2 * a .s .keying .cap + a .i))) _ _ _ (c .before .before .before .before .before .before .before .before .before .before .begin-row .ensures) _ _ (n .ensures) (c .before .before .put-flexes .ensures)
 
 pub write-row-spec : {M : Type 1} → statement M
 write-row-spec =
