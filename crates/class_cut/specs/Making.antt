@@ -35,6 +35,11 @@ use Rattle.class_keys.specs.declared.classes.Keying.{Keying}
 use Rattle.class_keys.specs.declared.classes.Counts.{Counts}
 use Rattle.term_lift.specs.Nodes.{laid-same}
 use Rattle.class_premises.specs.declared.layout.Layout.{Layout}
+use Rattle.class_premises.specs.declared.building.Building.{Building}
+use Rattle.class_premises.specs.declared.building.Counted.{Counted}
+use Rattle.class_premises.specs.declared.building.ClassMade.{ClassMade}
+use Rattle.class_premises.specs.declared.building.ClassMade.the-variants.{Made, Refused}
+use Rattle.class_premises.specs.Buffers.{handed}
 use Rattle.class_premises.specs.Standing.{liftedOf, Standing}
 use Rattle.class_premises.specs.Added.{builtWith, add-short-patterns, add-short-row, add-fine}
 use Rattle.class_premises.specs.More.{standing-more}
@@ -42,8 +47,6 @@ use Rattle.class_premises.specs.Grown.{Grown, grown-count, grown-counted, grown
 use Rattle.class_cut.specs.Fresh.{inputsOf}
 use Rattle.class_cut.specs.Conclusion.{Concluded, Unconcluded}
 use Rattle.class_cut.specs.Marks.{Writing, Writes, writes-row}
-use Rattle.class_cut.specs.declared.cut.CutMade.{CutMade}
-use Rattle.class_cut.specs.declared.cut.CutMade.the-variants as made
 
 -- the class of predicate p with this conclusion
 abbrev pub cutClass : Pack → ℕ → ℕ → Class
@@ -76,19 +79,33 @@ pub record Done (bytes work class words work′ class′ words′ cells : List �
   pub last : built .classes ≡ b .classes ++ (cutClass P p conclusion ∷ [])
   pub grows : Grows (b .store) (built .store)
 
+-- figures count nothing of it
+abbrev pub uncounted : Counted
+uncounted = record { vars = 0; flex = 0; fixed = 0; entries = 0; renamings = 0 }
+
+-- of whatever stands
+abbrev pub Whatever : List ℕ → List ℕ → List ℕ → List ℕ → Catalog → Keying → Layout → Store → ℕ → ℕ → ℕ → (List ℕ → Counts → Memo → Pack → Built → Type 0) → Type 0
+Whatever bytes work class words c k l st fill i p F =
+    (cells : List ℕ) (r : Counts) (memo : Memo) (P : Pack) (b : Built) → Asks bytes work class words cells c k l r st memo fill i p P b → F cells r memo P b
+
 -- what `make_cut` answers
-abbrev pub Cuts : List ℕ → List ℕ → List ℕ → List ℕ → List ℕ → List ℕ → List ℕ → Catalog → Keying → Layout → Store → ℕ → ℕ → ℕ → CutMade → Type 0
-Cuts bytes work class words work′ class′ words′ c k l st fill i p (made.Made st′ fill′) =
-    ((cells : List ℕ) (r : Counts) (memo : Memo) (P : Pack) (b : Built) → Asks bytes work class words cells c k l r st memo fill i p P b → Done bytes work class words work′ class′ words′ cells c k l r st′ memo fill′ p P b)
-    × (words′ ≡ written (nodes words′ st′) words)
+abbrev pub Cuts : List ℕ → List ℕ → List ℕ → List ℕ → List ℕ → List ℕ → List ℕ → Catalog → Keying → Layout → Store → Memo → ℕ → ℕ → ℕ → ClassMade → Type 0
+Cuts bytes work class words work′ class′ words′ c k l st known fill i p (Made s′ f) =
+    (s′ ≡ handed c k l (s′ .store) known (s′ .fill))
+    × (f ≡ uncounted)
+    × Whatever bytes work class words c k l st fill i p (λ cells r memo P b. Done bytes work class words work′ class′ words′ cells c k l r (s′ .store) memo (s′ .fill) p P b)
+    × (words′ ≡ written (nodes words′ (s′ .store)) words)
     × Outside (l .rows) (l .copied) work work′
-    × Outside fill fill′ class class′
-Cuts bytes work class words work′ class′ words′ c k l st fill i p made.ShortPatterns =
-    (cells : List ℕ) (r : Counts) (memo : Memo) (P : Pack) (b : Built) → Asks bytes work class words cells c k l r st memo fill i p P b
-    → (L : Lent) → L .pattern ≡ length words → outcome L (makeCut P p b) ≡ refuse (Short 2)
-Cuts bytes work class words work′ class′ words′ c k l st fill i p made.ShortRows =
-    (cells : List ℕ) (r : Counts) (memo : Memo) (P : Pack) (b : Built) → Asks bytes work class words cells c k l r st memo fill i p P b
-    → (L : Lent) → L .pattern ≡ length words → L .class ≡ length class → outcome L (makeCut P p b) ≡ refuse (Short 1)
+    × Outside fill (s′ .fill) class class′
+Cuts bytes work class words work′ class′ words′ c k l st known fill i p (Refused z) =
+    Whatever bytes work class words c k l st fill i p (λ cells r memo P b. (L : Lent) → L .pattern ≡ length words → L .class ≡ length class → outcome L (makeCut P p b) ≡ refuse z)
+
+-- both of what is at hand
+abbrev pub CuttingIn : List ℕ → List ℕ → List ℕ → List ℕ → Building → ℕ → ℕ → Type 0
+CuttingIn bytes work class words s i p = Cutting bytes work class words (s .catalog) (s .keying) (s .layout) (s .store) (s .fill) i p
+
+abbrev pub CutsIn : List ℕ → List ℕ → List ℕ → List ℕ → List ℕ → List ℕ → List ℕ → Building → ℕ → ℕ → ClassMade → Type 0
+CutsIn bytes work class words work′ class′ words′ s i p r = Cuts bytes work class words work′ class′ words′ (s .catalog) (s .keying) (s .layout) (s .store) (s .memo) (s .fill) i p r
 
 -- ---- the definition alone
 -- a cut class is added

@@ -12,6 +12,7 @@ use Rattle.base.specs.Outside.{Outside, outside-none, outside-then, outside-set
 use Rattle.class_keys.specs.ClassWords.{countIn}
 use Rattle.class_keys.specs.declared.classes.Keying.{Keying}
 use Rattle.class_premises.specs.declared.layout.Layout.{Layout}
+use Rattle.class_premises.specs.declared.building.Building.{Building}
 use Rattle.class_premises.specs.Row.{Beginning, Begun, Row, row-marked}
 
 -- the first j of n words from `at` on are 1
@@ -57,6 +58,13 @@ pub record Writes (work class work′ class′ : List ℕ) (k : Keying) (l : Lay
   pub beginning : Beginning work class l fill i (countIn work k i) n
   pub begun : Begun work class work′ between l fill i conclusion (countIn work k i) n
   pub marked : Marked between class′ (fill + 3) n n
+
+-- both of what is at hand
+abbrev pub WritingIn : List ℕ → List ℕ → Building → ℕ → ℕ → Type 0
+WritingIn work class s i n = Writing work class (s .keying) (s .layout) (s .fill) i n
+
+abbrev pub WritesIn : List ℕ → List ℕ → List ℕ → List ℕ → Building → ℕ → ℕ → ℕ → Type 0
+WritesIn work class work′ class′ s i conclusion n = Writes work class work′ class′ (s .keying) (s .layout) (s .fill) i conclusion n
 
 -- it is the row of a class whose variables are all flexible
 pub writes-row : (work class work′ class′ : List ℕ) (k : Keying) (l : Layout) (fill i conclusion n : ℕ) (x : Class) (ss : List ℕ) → Writes work class work′ class′ k l fill i conclusion n → conclusion ≡ x .conclusion

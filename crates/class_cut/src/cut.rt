@@ -1,53 +1,51 @@
 // A cut class made: its conclusion in the store, then its row.
 use crate::conclusion::cut_conclusion;
 use crate::row::write_cut;
-use class_keys::classes::Keying;
-use class_premises::layout::Layout;
+use class_premises::building::Building;
+use class_premises::building::ClassMade;
+use class_premises::building::Counted;
+use class_premises::building::go_on;
+use definition::Buffer;
+use definition::Refusal;
 use pack_read::symbol::symbol_arity;
-use pack_tables::catalog::Catalog;
 use store::nodes::Interned;
-use store::nodes::Store;
 use term_lift::lift::Lifted;
-ghost use Rattle.class_cut.specs.Making.{Cutting, Cuts};
+ghost use Rattle.class_cut.specs.Making.{CuttingIn, CutsIn};
 
-// The store that has the class's patterns and where its row ends; or that there is no room for a pattern, or none for the row.
-pub enum CutMade {
-    Made(Store, usize),
-    ShortPatterns,
-    ShortRows,
-}
-
-// The cut class of predicate `p`, class `i`; its row begins at `fill`.
+// The cut class of predicate `p`, class `i`; figures count nothing of it. A refusal leaves open what work and the pattern buffer hold then.
 pub fn make_cut(
     pack: &[u8],
     work: &mut [u32],
     class: &mut [u32],
     words: &mut [u32],
-    c: Catalog,
-    k: Keying,
-    l: Layout,
-    st: Store,
-    fill: usize,
+    s: Building,
     i: usize,
     p: u32,
-) -> CutMade
-    requires { ⌜ Cutting (now pack) (now work) (now class) (now words) c k l st fill i p ⌝ }
-    ensures { λ r. ⌜ Cuts (now (pack .entry)) (now (work .entry)) (now (class .entry)) (now (words .entry)) (now (work .exit)) (now (class .exit)) (now (words .exit)) c k l st fill i p r ⌝ }
+) -> ClassMade
+    requires { ⌜ CuttingIn (now pack) (now work) (now class) (now words) s i p ⌝ }
+    ensures { λ r. ⌜ CutsIn (now (pack .entry)) (now (work .entry)) (now (class .entry)) (now (words .entry)) (now (work .exit)) (now (class .exit)) (now (words .exit)) s i p r ⌝ }
 {
     let lifted = Lifted {
-        at: l.lifted,
-        nodes: l.nodes,
-        end: l.copied,
+        at: s.layout.lifted,
+        nodes: s.layout.nodes,
+        end: s.layout.copied,
     };
-    match cut_conclusion(pack, work, words, c, lifted, st, p) {
+    match cut_conclusion(pack, work, words, s.catalog, lifted, s.store, p) {
         Interned::Id(q, more) => {
-            let n = symbol_arity(pack, work, c, p as usize);
-            if class.len() - fill < 3 + n {
-                return CutMade::ShortRows;
+            let n = symbol_arity(pack, work, s.catalog, p as usize);
+            if class.len() - s.fill < 3 + n {
+                return ClassMade::Refused(Refusal::Short(Buffer::CLASS));
             }
-            write_cut(work, class, k, l, fill, i, q, n);
-            CutMade::Made(more, fill + 3 + n)
+            write_cut(work, class, s, i, q, n);
+            let f = Counted {
+                vars: 0,
+                flex: 0,
+                fixed: 0,
+                entries: 0,
+                renamings: 0,
+            };
+            ClassMade::Made(go_on(s, more, s.memo, s.fill + 3 + n), f)
         }
-        Interned::Short => CutMade::ShortPatterns,
+        Interned::Short => ClassMade::Refused(Refusal::Short(Buffer::PATTERN)),
     }
 }

@@ -32,6 +32,6 @@ write-row-spec =
     begin-row-requires
     (λ c. search needs)
     put-flexes-requires
-    (λ c. search needs)
-    (λ c. search needs)
+    (λ c. search)
+    (λ c. search)
     returns)

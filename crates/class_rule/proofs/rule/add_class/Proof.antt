@@ -67,9 +67,9 @@ add-class-spec =
     (λ c. search needs)
     sub-if1
     add-if1
-    (λ c. search needs)
-    (λ c. search needs)
-    (λ c. search needs)
+    (λ c. search)
+    (λ c. search)
+    (λ c. search)
     returns
     write-row-requires
     (λ c. search needs)
@@ -77,11 +77,11 @@ add-class-spec =
     (λ c κs. search needs)
     (λ c. search needs)
     same-length-4
-    (λ c. search needs)
+    (λ c. search)
     same-length-6
     same-length-7
     returns-2
-    (λ c. search needs)
-    (λ c. search needs)
-    (λ c. search needs)
+    (λ c. search)
+    (λ c. search)
+    (λ c. search)
     returns-3)

@@ -26,8 +26,8 @@ make-rule-spec =
     part-derive-class-end
     (λ c. search needs)
     derive-class-requires
-    (λ c. search needs)
-    (λ c. search needs)
-    (λ c. search needs)
-    (λ c. search needs)
+    (λ c. search)
+    (λ c. search)
+    (λ c. search)
+    (λ c. search)
     (λ c. search needs))
