@@ -1,6 +1,6 @@
 -- `make_cut` meets its contract: the conclusion is in the store, then the row is written.
 use borrow.Author.Needs.{needs}
-use mathlib.Core.Path.{refl}
+use mathlib.Core.Path.{refl, _∙_}
 use native.Mathlib.Omega.{arith}
 use Rattle.class_cut.specs.Making.{asks-symbol, asks-short, asked-readable, asked-symbol, asked-few, asked-short, asked-writing, asked-places, asked-rows, asked-done}
 use Rattle.class_cut.proofs.cut.make_cut.Statement.{statement}
@@ -15,6 +15,9 @@ symbol-arity-requires c κs =
     let f = c .before .before .before .before .before .before .before .before .cut-conclusion in
     let C = rw (c .before .before .q .given .1) at (f .ensures) in
     (asked-readable _ _ _ _ _ _ _ _ _ _ _ _ _ _ _ _ A _ _ _ _ (f .kept .1 .1 .0) C, asked-symbol _ _ _ _ _ _ _ _ _ _ _ _ _ _ _ _ A _ _ _ _ (f .kept .1 .1 .0) C)
+
+sub-if1 : tie.Need-sub-if1
+sub-if1 c = omega (arith, c .before .before .before .before .before .before .before .before .before .before .before .before .before .before .before .before .before .pre .asks .standing .rows .fits)
 
 add-if1 : tie.Need-add-if1
 add-if1 c =
@@ -34,6 +37,12 @@ write-cut-requires c κs =
     let f = c .before .before .before .before .before .before .before .before .before .before .before .before .before .cut-conclusion in
     let C = rw (c .before .before .before .before .before .before .before .q .given .1) at (f .ensures) in
     asked-writing _ _ _ _ _ _ _ _ _ _ _ _ _ _ _ _ (K .asks) _ _ _ _ (f .kept .1 .1 .0) C (c .before .before .before .before .symbol-arity .result) (c .before .before .before .before .symbol-arity .ensures) (omega (arith, c .before .before .if1 .left)) (K .small)
+
+same-length-3 : tie.Need-same-length-3
+same-length-3 c = c .before .before .before .before .before .before .write-cut .kept .0 ∙ c .before .before .before .before .before .before .before .before .before .before .before .before .before .before .before .before .before .before .before .before .cut-conclusion .kept .1 .0
+
+same-length-5 : tie.Need-same-length-5
+same-length-5 c = c .before .before .before .before .before .before .before .before .before .before .before .before .before .before .before .before .before .before .before .before .cut-conclusion .kept .1 .1 .0
 
 returns-2 : tie.Need-returns-2
 returns-2 c =
@@ -62,7 +71,7 @@ make-cut-spec =
     cut-conclusion-requires
     (λ c. search needs)
     symbol-arity-requires
-    (λ c. search needs)
+    sub-if1
     add-if1
     (λ c. search needs)
     (λ c. search needs)
@@ -72,9 +81,9 @@ make-cut-spec =
     (λ c. search needs)
     (λ c κs. search needs)
     (λ c. search needs)
+    same-length-3
     (λ c. search needs)
-    (λ c. search needs)
-    (λ c. search needs)
+    same-length-5
     returns-2
     (λ c. search needs)
     (λ c. search needs)
