@@ -3,11 +3,10 @@ use mathlib.Core.Path.{_≡_, refl, sym, ap, _∙_, subst}
 use mathlib.Core.List.{List, []}
 use Prim.Native.Nat.{ℕ, suc, _+_, _≤_, _<_}
 use native.Mathlib.Omega.{arith}
-use lib.ListN.{length, take, drop, drop-of-length-le}
-use lib.Seq.{drop-cons, take-all}
+use lib.ListN.{length, drop, drop-of-length-le}
+use lib.Seq.{drop-cons}
 use Rattle.definition.specs.Pack.{Node, Pack}
 use Rattle.definition.specs.Keys.{Keyed, noKeyed, keyed as keysOf}
-use Rattle.definition.specs.Graph.{upTo}
 use Rattle.definition.specs.Classes.{Built, makeClasses}
 use Rattle.definition.specs.Frame.{fine, refuse}
 use Rattle.definition.specs.Answer.{Lent}
@@ -30,13 +29,13 @@ use Rattle.class_premises.specs.declared.layout.Layout.{Layout}
 use Rattle.class_premises.specs.RowWords.{width, width-more}
 use Rattle.class_premises.specs.Standing.{Standing, standing-keyed}
 use Rattle.class_rule.specs.Done.{Lends, Done, Refused as RefusedRun}
-use Rattle.class_rule.specs.declared.rule.Counted.{Counted}
-use Rattle.class_all.specs.Class.{Asks, Making, classRun, Makes}
+use Rattle.class_premises.specs.declared.building.Building.{Building}
+use Rattle.class_premises.specs.declared.building.Counted.{Counted}
+use Rattle.class_premises.specs.declared.building.ClassMade.{ClassMade}
+use Rattle.class_premises.specs.declared.building.ClassMade.the-variants.{Made, Refused}
+use Rattle.class_premises.specs.Buffers.{Buffers, lent, handed}
+use Rattle.class_all.specs.Class.{Asks, classRun, Makes, MakingIn, MakesIn}
 use Rattle.class_all.specs.Totals.{Addable, summed, noTotals, Sums, Low, sums-none, low-none, sums-more, low-more, addable}
-use Rattle.class_all.specs.declared.totals.Totals.{Totals}
-use Rattle.class_all.specs.declared.answer.ClassMade.the-variants as one
-use Rattle.class_all.specs.declared.all.Building.{Building}
-use Rattle.class_all.specs.declared.all.Building.the-variants.{Built as AllBuilt, Refused}
 
 -- ---- what is asked and answered
 -- what stands at entry: no class is made, and the keys count so many
@@ -54,12 +53,6 @@ pub record Beginning (bytes work class words cells : List ℕ) (c : Catalog) (k 
   pub small-cells : length cells < 4294967295
   pub small : length class < 4294967296
 
--- the same with an environment for rules, and room for their premises' instances
-pub record Starting (bytes work class words cells : List ℕ) (c : Catalog) (k : Keying) (l : Layout) (st : Store) (memo : Memo) (env instances : List ℕ) (count fill : ℕ) : Type 0 where
-  pub beginning : Beginning bytes work class words cells c k l st memo count fill
-  pub env-is : env ≡ upTo 64
-  pub room : 16 ≤ length instances
-
 -- the definition's run, and what is left of it behind i classes
 abbrev pub allRun : Pack → Built → Run Built
 allRun P b = makeClasses P (keysOf P .words) (keysOf P .classes) b
@@ -68,7 +61,7 @@ abbrev leftRun : Pack → Built → ℕ → Run Built
 leftRun P b i = makeClasses P (keysOf P .words) (drop i (keysOf P .classes)) b
 
 -- all classes are made, these are the sums over them, and all stands with them
-pub record AllDone (class words cells bytes work′ class′ words′ cells′ : List ℕ) (c : Catalog) (k : Keying) (l : Layout) (r : KeyCounts) (st′ : Store) (memo′ : Memo) (fill′ : ℕ) (t : Totals) (P : Pack) (b : Built) : Type 0 where
+pub record AllDone (class words cells bytes work′ class′ words′ cells′ : List ℕ) (c : Catalog) (k : Keying) (l : Layout) (r : KeyCounts) (st′ : Store) (memo′ : Memo) (fill′ : ℕ) (t : Counted) (P : Pack) (b : Built) : Type 0 where
   pub built : Built
   pub standing : Standing bytes work′ class′ words′ cells′ c k l r st′ memo′ fill′ P built
   pub is : (L : Lent) → Lends L class words cells → outcome L (allRun P b) ≡ fine built
@@ -80,18 +73,27 @@ abbrev pub Whatever : List ℕ → List ℕ → List ℕ → List ℕ → List �
 Whatever bytes work class words cells c k l st memo count fill F = (r : KeyCounts) (P : Pack) (b : Built) → Begins bytes work class words cells c k l r st memo count fill P b → F r P b
 
 -- what `make_classes` answers
-abbrev pub Builds : List ℕ → List ℕ → List ℕ → List ℕ → List ℕ → List ℕ → List ℕ → List ℕ → List ℕ → Catalog → Keying → Layout → Store → Memo → ℕ → ℕ → Building → Type 0
-Builds bytes work class words cells work′ class′ words′ cells′ c k l st memo count fill (AllBuilt st′ memo′ fill′ t) =
-    Whatever bytes work class words cells c k l st memo count fill (λ r P b. AllDone class words cells bytes work′ class′ words′ cells′ c k l r st′ memo′ fill′ t P b)
-    × (words′ ≡ written (nodes words′ st′) words)
+abbrev pub Builds : List ℕ → List ℕ → List ℕ → List ℕ → List ℕ → List ℕ → List ℕ → List ℕ → List ℕ → Catalog → Keying → Layout → Store → Memo → ℕ → ℕ → ClassMade → Type 0
+Builds bytes work class words cells work′ class′ words′ cells′ c k l st memo count fill (Made s′ t) =
+    (s′ ≡ handed c k l (s′ .store) (s′ .memo) (s′ .fill))
+    × Whatever bytes work class words cells c k l st memo count fill (λ r P b. AllDone class words cells bytes work′ class′ words′ cells′ c k l r (s′ .store) (s′ .memo) (s′ .fill) t P b)
+    × (words′ ≡ written (nodes words′ (s′ .store)) words)
     × Outside (l .rows) (l .end) work work′
-    × Outside fill fill′ class class′
+    × Outside fill (s′ .fill) class class′
 Builds bytes work class words cells work′ class′ words′ cells′ c k l st memo count fill (Refused x) =
     Whatever bytes work class words cells c k l st memo count fill (λ r P b. RefusedRun class words cells (allRun P b) x)
 
+-- both of buffers that are lent and what is at hand
+abbrev pub BeginningIn : Buffers → Building → ℕ → Type 0
+BeginningIn B s count = Beginning (B .pack) (B .work) (B .class) (B .pattern) (B .graph) (s .catalog) (s .keying) (s .layout) (s .store) (s .memo) count (s .fill)
+
+abbrev pub BuildsIn : Buffers → Buffers → Building → ℕ → ClassMade → Type 0
+BuildsIn B B′ s count r =
+    Builds (B .pack) (B .work) (B .class) (B .pattern) (B .graph) (B′ .work) (B′ .class) (B′ .pattern) (B′ .graph) (s .catalog) (s .keying) (s .layout) (s .store) (s .memo) count (s .fill) r
+
 -- ---- between two classes
 -- i classes are made, and what is left to do comes to what the whole comes to
-pub record Left (class words cells bytes work′ class′ words′ cells′ : List ℕ) (c : Catalog) (k : Keying) (l : Layout) (r : KeyCounts) (st′ : Store) (memo′ : Memo) (fill′ : ℕ) (t : Totals) (i : ℕ) (P : Pack) (b : Built) : Type 0 where
+pub record Left (class words cells bytes work′ class′ words′ cells′ : List ℕ) (c : Catalog) (k : Keying) (l : Layout) (r : KeyCounts) (st′ : Store) (memo′ : Memo) (fill′ : ℕ) (t : Counted) (i : ℕ) (P : Pack) (b : Built) : Type 0 where
   pub built : Built
   pub standing : Standing bytes work′ class′ words′ cells′ c k l r st′ memo′ fill′ P built
   pub number : i ≡ length (built .classes)
@@ -99,16 +101,17 @@ pub record Left (class words cells bytes work′ class′ words′ cells′ : Li
   pub sums : Sums t (built .classes)
 
 -- so it is of whatever stood at entry
-pub record Turned (bytes work class words cells work′ class′ words′ cells′ : List ℕ) (c : Catalog) (k : Keying) (l : Layout) (st : Store) (memo : Memo) (count fill : ℕ) (st′ : Store) (memo′ : Memo) (fill′ : ℕ) (t : Totals) (i : ℕ) : Type 0 where
+pub record Turned (bytes work class words cells work′ class′ words′ cells′ : List ℕ) (c : Catalog) (k : Keying) (l : Layout) (st : Store) (memo : Memo) (count fill : ℕ) (s : Building) (t : Counted) (i : ℕ) : Type 0 where
+  pub same : s ≡ handed c k l (s .store) (s .memo) (s .fill)
   pub most : i ≤ count
   pub words-long : length words′ ≡ length words
   pub cells-long : length cells′ ≡ length cells
-  pub are : words′ ≡ written (nodes words′ st′) words
+  pub are : words′ ≡ written (nodes words′ (s .store)) words
   pub places : Outside (l .rows) (l .end) work work′
-  pub rows : Outside fill fill′ class class′
-  pub rising : fill ≤ fill′
+  pub rows : Outside fill (s .fill) class class′
+  pub rising : fill ≤ (s .fill)
   pub low : Low t i
-  pub each : Whatever bytes work class words cells c k l st memo count fill (λ r P b. Left class words cells bytes work′ class′ words′ cells′ c k l r st′ memo′ fill′ t i P b)
+  pub each : Whatever bytes work class words cells c k l st memo count fill (λ r P b. Left class words cells bytes work′ class′ words′ cells′ c k l r (s .store) (s .memo) (s .fill) t i P b)
 
 -- the next class of what is left
 left-next : (P : Pack) (b : Built) (i : ℕ) → i < length (keysOf P .classes) → (L : Lent) (b′ : Built) → outcome L (classRun P b i) ≡ fine b′ → outcome L (leftRun P b i) ≡ outcome L (leftRun P b′ (i + 1))
@@ -149,8 +152,9 @@ module _ (bytes work class words cells : List ℕ) (c : Catalog) (k : Keying) (l
         omega (arith, B .counted, Q .few, length-steps bytes (recordsOf work c) (K .pack) (S .reads), S .keyed .keyable .words, K .small)
 
     -- no class is made yet
-    pub turned-none : Turned bytes work class words cells work class words cells c k l st memo count fill st memo fill noTotals 0
+    pub turned-none : Turned bytes work class words cells work class words cells c k l st memo count fill (handed c k l st memo fill) noTotals 0
     turned-none = record {
+      same = refl;
       most = omega arith;
       words-long = refl;
       cells-long = refl;
@@ -163,41 +167,47 @@ module _ (bytes work class words cells : List ℕ) (c : Catalog) (k : Keying) (l
     }
 
     -- ---- a turn
-    module _ (work′ class′ words′ cells′ : List ℕ) (st′ : Store) (memo′ : Memo) (fill′ : ℕ) (t : Totals) (i : ℕ) (T : Turned bytes work class words cells work′ class′ words′ cells′ c k l st memo count fill st′ memo′ fill′ t i) where
+    module _ (work′ class′ words′ cells′ : List ℕ) (s : Building) (t : Counted) (i : ℕ) (T : Turned bytes work class words cells work′ class′ words′ cells′ c k l st memo count fill s t i) where
       -- these are lent
       lends : (L : Lent) → Lends L class words cells → Lends L class′ words′ cells′
       lends L e = record { class-long = e .class-long ∙ sym (T .rows .long); words-long = e .words-long ∙ sym (T .words-long); cells-long = e .cells-long ∙ sym (T .cells-long) }
 
       module _ (h : i < count) where
         -- the next class is asked for
-        asks : (r : KeyCounts) (P : Pack) (b : Built) (B : Begins bytes work class words cells c k l r st memo count fill P b) → Asks bytes work′ class′ words′ cells′ c k l r st′ memo′ fill′ i P (T .each r P b B .built)
+        asks : (r : KeyCounts) (P : Pack) (b : Built) (B : Begins bytes work class words cells c k l r st memo count fill P b) → Asks bytes work′ class′ words′ cells′ c k l r (s .store) (s .memo) (s .fill) i P (T .each r P b B .built)
         asks r P b B = let E = T .each r P b B in record { standing = E .standing; number = E .number; more = omega (arith, h, begins-all r P b B) }
 
-        pub turned-makes : (env instances : List ℕ) → env ≡ upTo 64 → 16 ≤ length instances → Making bytes work′ class′ words′ cells′ c k l st′ memo′ env instances fill′ i
-        turned-makes env instances e m = record {
+        pub turned-makes : MakingIn (lent bytes class′ words′ cells′ work′) s i
+        turned-makes = subst (λ (x : Building). MakingIn (lent bytes class′ words′ cells′ work′) x i) (sym (T .same)) (record {
           counts = K .counts;
           pack = K .pack;
           built = T .each (K .counts) (K .pack) (K .built) (K .begins) .built;
           asks = asks (K .counts) (K .pack) (K .built) (K .begins);
-          env-is = e;
-          room = m;
           small-cells = omega (arith, T .cells-long, K .small-cells);
           small = omega (arith, T .rows .long, K .small);
-        }
+        })
+
+        -- what is at hand has its places
+        placed : (work″ class″ words″ cells″ : List ℕ) (m : ClassMade) → MakesIn (lent bytes class′ words′ cells′ work′) (lent bytes class″ words″ cells″ work″) s i m
+            → Makes bytes work′ class′ words′ cells′ work″ class″ words″ cells″ c k l (s .store) (s .memo) (s .fill) i m
+        placed work″ class″ words″ cells″ m M = subst (λ (x : Building). MakesIn (lent bytes class′ words′ cells′ work′) (lent bytes class″ words″ cells″ work″) x i m) (T .same) M
 
         -- it is refused
-        pub turned-refused : (work″ class″ words″ cells″ : List ℕ) (x : Reason) → Makes bytes work′ class′ words′ cells′ work″ class″ words″ cells″ c k l st′ memo′ fill′ i (one.Refused x)
+        pub turned-refused : (work″ class″ words″ cells″ : List ℕ) (x : Reason) → MakesIn (lent bytes class′ words′ cells′ work′) (lent bytes class″ words″ cells″ work″) s i (Refused x)
             → Builds bytes work class words cells work″ class″ words″ cells″ c k l st memo count fill (Refused x)
         turned-refused work″ class″ words″ cells″ x M r P b B L e =
             let E = T .each r P b B in
-            E .left L e ∙ left-refused P (E .built) i (omega (arith, h, begins-all r P b B)) L x (M r P (E .built) (asks r P b B) L (lends L e))
+            E .left L e ∙ left-refused P (E .built) i (omega (arith, h, begins-all r P b B)) L x (placed work″ class″ words″ cells″ (Refused x) M r P (E .built) (asks r P b B) L (lends L e))
 
         -- it is made
-        module _ (work″ class″ words″ cells″ : List ℕ) (st″ : Store) (memo″ : Memo) (fill″ : ℕ) (f : Counted) (M : Makes bytes work′ class′ words′ cells′ work″ class″ words″ cells″ c k l st′ memo′ fill′ i (one.Made st″ memo″ fill″ f)) where
+        module _ (work″ class″ words″ cells″ : List ℕ) (s″ : Building) (f : Counted) (Q : MakesIn (lent bytes class′ words′ cells′ work′) (lent bytes class″ words″ cells″ work″) s i (Made s″ f)) where
+          abbrev M : Makes bytes work′ class′ words′ cells′ work″ class″ words″ cells″ c k l (s .store) (s .memo) (s .fill) i (Made s″ f)
+          M = placed work″ class″ words″ cells″ (Made s″ f) Q
+
           -- of one pack and what was built of it
           done : (r : KeyCounts) (P : Pack) (b : Built) (B : Begins bytes work class words cells c k l r st memo count fill P b)
-              → Done class′ words′ cells′ bytes work″ class″ words″ cells″ c k l r st″ memo″ fill″ f P (T .each r P b B .built) (classRun P (T .each r P b B .built) i)
-          done r P b B = M .0 r P (T .each r P b B .built) (asks r P b B)
+              → Done class′ words′ cells′ bytes work″ class″ words″ cells″ c k l r (s″ .store) (s″ .memo) (s″ .fill) f P (T .each r P b B .built) (classRun P (T .each r P b B .built) i)
+          done r P b B = M .1 r P (T .each r P b B .built) (asks r P b B)
 
           -- the sums may be added to
           pub turned-addable : Addable t f
@@ -205,29 +215,30 @@ module _ (bytes work class words cells : List ℕ) (c : Catalog) (k : Keying) (l
               addable t f i (length cells′) (omega (arith, T .cells-long, K .small-cells)) (done (K .counts) (K .pack) (K .built) (K .begins) .few) (T .low) (omega (arith, h, beginning-few))
 
           -- the rows end further on
-          further : fill′ ≤ fill″
+          further : (s .fill) ≤ (s″ .fill)
           further =
               let E = T .each (K .counts) (K .pack) (K .built) (K .begins) in
               let D = done (K .counts) (K .pack) (K .built) (K .begins) in
               omega (arith, E .standing .rows .filled, D .standing .rows .filled, ap width (D .last), width-more (E .built .classes) (D .made))
 
           -- the store has grown
-          grown : Grows (nodes words′ st′) (nodes words″ st″)
+          grown : Grows (nodes words′ (s .store)) (nodes words″ (s″ .store))
           grown =
               let E = T .each (K .counts) (K .pack) (K .built) (K .begins) in
               let D = done (K .counts) (K .pack) (K .built) (K .begins) in
-              subst (λ (s : List Node). Grows s (nodes words″ st″)) (sym (E .standing .store)) (subst (Grows (E .built .store)) (sym (D .standing .store)) (D .grows))
+              subst (λ (s : List Node). Grows s (nodes words″ (s″ .store))) (sym (E .standing .store)) (subst (Grows (E .built .store)) (sym (D .standing .store)) (D .grows))
 
-          pub turned-more : length words″ ≡ length words′ → length cells″ ≡ length cells′ → Turned bytes work class words cells work″ class″ words″ cells″ c k l st memo count fill st″ memo″ fill″ (summed t f) (i + 1)
+          pub turned-more : length words″ ≡ length words′ → length cells″ ≡ length cells′ → Turned bytes work class words cells work″ class″ words″ cells″ c k l st memo count fill s″ (summed t f) (i + 1)
           turned-more w z = record {
+            same = M .0;
             most = omega arith;
             words-long = w ∙ T .words-long;
             cells-long = z ∙ T .cells-long;
-            are = M .1 ∙ ap (written (nodes words″ st″)) (T .are) ∙ written-again (nodes words′ st′) (nodes words″ st″) words grown;
-            places = outside-then (l .rows) (l .end) work work′ work″ (T .places) (M .2);
+            are = M .2 ∙ ap (written (nodes words″ (s″ .store))) (T .are) ∙ written-again (nodes words′ (s .store)) (nodes words″ (s″ .store)) words grown;
+            places = outside-then (l .rows) (l .end) work work′ work″ (T .places) (M .3);
             rows =
-                outside-then fill fill″ class class′ class″ (outside-wider fill fill′ fill fill″ class class′ (omega arith) further (T .rows))
-                (outside-wider fill′ fill″ fill fill″ class′ class″ (T .rising) (omega arith) (M .3));
+                outside-then fill (s″ .fill) class class′ class″ (outside-wider fill (s .fill) fill (s″ .fill) class class′ (omega arith) further (T .rows))
+                (outside-wider (s .fill) (s″ .fill) fill (s″ .fill) class′ class″ (T .rising) (omega arith) (M .4));
             rising = omega (arith, T .rising, further);
             low = low-more t f i (length cells′) (omega (arith, T .cells-long, K .small-cells)) (done (K .counts) (K .pack) (K .built) (K .begins) .few) (T .low);
             each = λ r P b B.
@@ -243,8 +254,9 @@ module _ (bytes work class words cells : List ℕ) (c : Catalog) (k : Keying) (l
           }
 
       -- all are made
-      pub turned-all : count ≤ i → Builds bytes work class words cells work′ class′ words′ cells′ c k l st memo count fill (AllBuilt st′ memo′ fill′ t)
+      pub turned-all : count ≤ i → Builds bytes work class words cells work′ class′ words′ cells′ c k l st memo count fill (Made s t)
       turned-all h = (
+        T .same,
         (λ r P b B.
             let E = T .each r P b B in
             let n = begins-all r P b B in
@@ -259,7 +271,3 @@ module _ (bytes work class words cells : List ℕ) (c : Catalog) (k : Keying) (l
         T .places,
         T .rows,
       )
-
-  -- ---- the environment
-  pub begun : (env instances : List ℕ) → Beginning bytes work class words cells c k l st memo count fill → length env ≡ 64 → take 64 env ≡ upTo 64 → length instances ≡ 16 → Starting bytes work class words cells c k l st memo env instances count fill
-  begun env instances K e u m = record { beginning = K; env-is = sym (take-all 64 env (omega (arith, e))) ∙ u; room = omega (arith, m) }

@@ -8,13 +8,10 @@ use lib.ListN.{length, getD, take, drop}
 use Rattle.definition.specs.Pack.{Pack, ruleOf, stepOf}
 use Rattle.definition.specs.Certificate.{count}
 use Rattle.definition.specs.Keys.{noKeyed, predicateOf, isCut, keyed as keysOf}
-use Rattle.definition.specs.Graph.{upTo}
 use Rattle.definition.specs.Classes.{Built, makeCut, makeClass}
 use Rattle.definition.specs.Figures.{classVars, flexVars}
 use Rattle.definition.specs.Run.{Run, outcome}
 use Rattle.definition.specs.declared.Refusal.{Refusal as Reason}
-use Rattle.definition.specs.declared.Refusal.the-variants as refusal
-use Rattle.theory.specs.Unification.Circle.{length-upTo}
 use Rattle.base.specs.Outside.{Outside, outside-wider}
 use Rattle.store.specs.Stored.{nodes, written}
 use Rattle.memo.specs.declared.memo.Memo.{Memo}
@@ -25,7 +22,6 @@ use Rattle.pack_reader.specs.Marks.{Marks}
 use Rattle.pack_read.specs.Reads.{length-rules, length-steps}
 use Rattle.pack_read.specs.Says.{OfPack}
 use Rattle.pack_read.specs.Held.{Held, OfHeld}
-use Rattle.term_instantiate.specs.Count.{up-lent, up-first}
 use Rattle.theory.specs.Making.Firsts.{firstStep, first-given, first-made, cut-made, rule-made, predicate-given}
 use Rattle.class_keys.specs.ClassWords.{firstIn}
 use Rattle.class_keys.specs.Keyed.{keyed-room}
@@ -35,15 +31,13 @@ use Rattle.class_premises.specs.declared.layout.Layout.{Layout}
 use Rattle.class_premises.specs.declared.premises.Ruling.{Ruling}
 use Rattle.class_premises.specs.Standing.{Standing, standing-held, standing-keyed}
 use Rattle.class_cut.specs.Making as cuts
-use Rattle.class_cut.specs.declared.cut.CutMade.{CutMade}
-use Rattle.class_cut.specs.declared.cut.CutMade.the-variants as cut
 use Rattle.class_rule.specs.Done.{Done, Refused as RefusedRun}
 use Rattle.class_rule.specs.Making as rules
-use Rattle.class_rule.specs.declared.rule.RuleMade.{RuleMade}
-use Rattle.class_rule.specs.declared.rule.RuleMade.the-variants as rule
-use Rattle.class_all.specs.Answer.{ofCut, ofRule}
-use Rattle.class_all.specs.declared.answer.ClassMade.{ClassMade}
-use Rattle.class_all.specs.declared.answer.ClassMade.the-variants.{Made, Refused}
+use Rattle.class_premises.specs.declared.building.Building.{Building}
+use Rattle.class_premises.specs.declared.building.Counted.{Counted}
+use Rattle.class_premises.specs.declared.building.ClassMade.{ClassMade}
+use Rattle.class_premises.specs.declared.building.ClassMade.the-variants.{Made, Refused}
+use Rattle.class_premises.specs.Buffers.{Buffers, handed}
 
 -- ---- what is asked and answered
 -- a step's rule, and how many variables and premises that has
@@ -58,14 +52,12 @@ pub record Asks (bytes work class words cells : List ℕ) (c : Catalog) (k : Key
   pub number : i ≡ length (b .classes)
   pub more : i < length (keysOf P .classes)
 
--- some such stands, there is room for the premises' instances, and the places of class buffer and cells are words
-pub record Making (bytes work class words cells : List ℕ) (c : Catalog) (k : Keying) (l : Layout) (st : Store) (memo : Memo) (env instances : List ℕ) (fill i : ℕ) : Type 0 where
+-- some such stands, and the places of class buffer and cells are words
+pub record Making (bytes work class words cells : List ℕ) (c : Catalog) (k : Keying) (l : Layout) (st : Store) (memo : Memo) (fill i : ℕ) : Type 0 where
   pub counts : KeyCounts
   pub pack : Pack
   pub built : Built
   pub asks : Asks bytes work class words cells c k l counts st memo fill i pack built
-  pub env-is : env ≡ upTo 64
-  pub room : 16 ≤ length instances
   pub small-cells : length cells < 4294967295
   pub small : length class < 4294967296
 
@@ -79,13 +71,22 @@ Whatever bytes work class words cells c k l st memo fill i F = (r : KeyCounts) (
 
 -- what `make_class` answers
 abbrev pub Makes : List ℕ → List ℕ → List ℕ → List ℕ → List ℕ → List ℕ → List ℕ → List ℕ → List ℕ → Catalog → Keying → Layout → Store → Memo → ℕ → ℕ → ClassMade → Type 0
-Makes bytes work class words cells work′ class′ words′ cells′ c k l st memo fill i (Made st′ memo′ fill′ f) =
-    Whatever bytes work class words cells c k l st memo fill i (λ r P b. Done class words cells bytes work′ class′ words′ cells′ c k l r st′ memo′ fill′ f P b (classRun P b i))
-    × (words′ ≡ written (nodes words′ st′) words)
+Makes bytes work class words cells work′ class′ words′ cells′ c k l st memo fill i (Made s′ f) =
+    (s′ ≡ handed c k l (s′ .store) (s′ .memo) (s′ .fill))
+    × Whatever bytes work class words cells c k l st memo fill i (λ r P b. Done class words cells bytes work′ class′ words′ cells′ c k l r (s′ .store) (s′ .memo) (s′ .fill) f P b (classRun P b i))
+    × (words′ ≡ written (nodes words′ (s′ .store)) words)
     × Outside (l .rows) (l .end) work work′
-    × Outside fill fill′ class class′
+    × Outside fill (s′ .fill) class class′
 Makes bytes work class words cells work′ class′ words′ cells′ c k l st memo fill i (Refused x) =
     Whatever bytes work class words cells c k l st memo fill i (λ r P b. RefusedRun class words cells (classRun P b i) x)
+
+-- both of buffers that are lent and what is at hand
+abbrev pub MakingIn : Buffers → Building → ℕ → Type 0
+MakingIn B s i = Making (B .pack) (B .work) (B .class) (B .pattern) (B .graph) (s .catalog) (s .keying) (s .layout) (s .store) (s .memo) (s .fill) i
+
+abbrev pub MakesIn : Buffers → Buffers → Building → ℕ → ClassMade → Type 0
+MakesIn B B′ s i r =
+    Makes (B .pack) (B .work) (B .class) (B .pattern) (B .graph) (B′ .work) (B′ .class) (B′ .pattern) (B′ .graph) (s .catalog) (s .keying) (s .layout) (s .store) (s .memo) (s .fill) i r
 
 -- ---- a step's rule
 module _ (bytes work : List ℕ) (c : Catalog) (H : Held bytes work c) (s : ℕ) (h : s < length (recordsOf work c 4)) (r : ℕ) (R : OfPack bytes work c (λ P. stepOf P s .rule) r) where
@@ -141,12 +142,6 @@ module _ (bytes work class words cells : List ℕ) (c : Catalog) (k : Keying) (l
             rule-made P (A .standing .proper .good) i (A .more) (sym (ap (λ (t : ℕ). isCut P (predicateOf P t)) e) ∙ cut-not) (keysOf P .words) b
             ∙ ap (λ (t : ℕ). rules.ruleRun P b (record { step = t; rule = u .rule; vars = u .vars; premises = u .premises })) (sym (step-is ∙ e))
 
-        -- the rule is one of the pack's
-        rule-given : u .rule < length (P .rules)
-        rule-given =
-            let z = A .standing .proper .good .steps (u .step) (omega (arith, step-is, first-step)) .rule in
-            omega (arith, U .rule, z)
-
         -- which is asked for
         rule-asks : rules.Asks bytes work class words cells c k l r st memo u fill i P b
         rule-asks =
@@ -167,7 +162,7 @@ module _ (bytes work class words cells : List ℕ) (c : Catalog) (k : Keying) (l
             }
 
   -- ---- what `make_class` needs
-  module _ (env instances : List ℕ) (K : Making bytes work class words cells c k l st memo env instances fill i) where
+  module _ (K : Making bytes work class words cells c k l st memo fill i) where
     -- the first step may be read
     pub making-first : k .at + k .cap + i < length work
     making-first = first-room (K .counts) (K .pack) (K .built) (K .asks)
@@ -178,10 +173,6 @@ module _ (bytes work class words cells : List ℕ) (c : Catalog) (k : Keying) (l
 
     pub making-marks : Marks bytes work c
     making-marks = K .asks .standing .keyed .keyable .marks
-
-    -- the environment has 64 words
-    pub making-env : length env ≡ 64
-    making-env = ap length (K .env-is) ∙ length-upTo 64
 
     module _ (s : ℕ) (S : s ≡ firstIn work k i) where
       -- the step is recorded
@@ -208,33 +199,35 @@ module _ (bytes work class words cells : List ℕ) (c : Catalog) (k : Keying) (l
           making-cut = record { cells = cells; counts = K .counts; memo = memo; pack = K .pack; built = K .built; asks = asks-cut (K .counts) (K .pack) (K .built) (K .asks); small = K .small }
 
           -- it is made, or not
-          pub makes-cut : (work′ class′ words′ : List ℕ) (m : CutMade) → cuts.Cuts bytes work class words work′ class′ words′ c k l st fill i p m
-              → Makes bytes work class words cells work′ class′ words′ cells c k l st memo fill i (ofCut m memo)
+          pub makes-cut : (work′ class′ words′ : List ℕ) (m : ClassMade) → cuts.Cuts bytes work class words work′ class′ words′ c k l st memo fill i p m
+              → Makes bytes work class words cells work′ class′ words′ cells c k l st memo fill i m
           unfolding classVars flexVars
-          makes-cut work′ class′ words′ (cut.Made st′ fill′) C = (
-            (λ r P b A.
-                let D = C .0 cells r memo P b (asks-cut r P b A) in
-                record {
-                  built = D .built;
-                  standing = D .standing;
-                  is = λ L v. ap (outcome L) (run-cut r P b A) ∙ D .is L (v .words-long) (v .class-long);
-                  longer = D .longer;
-                  made = cuts.cutClass P p (D .conclusion);
-                  last = D .last;
-                  grows = D .grows;
-                  few = record { vars = omega arith; flex = omega arith; fixed = omega arith; entries = omega arith; renamings = omega arith };
-                  vars = refl;
-                  flex = refl;
-                  fixed = refl;
-                  entries = refl;
-                  renamings = refl;
-                }),
-            C .1,
-            (let laid = K .asks .standing .placed .laid in outside-wider (l .rows) (l .copied) (l .rows) (l .end) work work′ (omega arith) (omega (arith, laid .memo, laid .stack, laid .variables, laid .table)) (C .2)),
-            C .3,
-          )
-          makes-cut work′ class′ words′ cut.ShortPatterns C = λ r P b A L v. ap (outcome L) (run-cut r P b A) ∙ C cells r memo P b (asks-cut r P b A) L (v .words-long)
-          makes-cut work′ class′ words′ cut.ShortRows C = λ r P b A L v. ap (outcome L) (run-cut r P b A) ∙ C cells r memo P b (asks-cut r P b A) L (v .words-long) (v .class-long)
+          makes-cut work′ class′ words′ (Made s′ f) C =
+              let known : s′ .memo ≡ memo = ap (λ (x : Building). x .memo) (C .0) in (
+                C .0 ∙ ap (λ (x : Memo). handed c k l (s′ .store) x (s′ .fill)) (sym known),
+                (λ r P b A.
+                    let D = C .2 cells r memo P b (asks-cut r P b A) in
+                    subst (λ (x : Memo). Done class words cells bytes work′ class′ words′ cells c k l r (s′ .store) x (s′ .fill) f P b (classRun P b i)) (sym known)
+                    (subst (λ (x : Counted). Done class words cells bytes work′ class′ words′ cells c k l r (s′ .store) memo (s′ .fill) x P b (classRun P b i)) (sym (C .1)) (record {
+                      built = D .built;
+                      standing = D .standing;
+                      is = λ L v. ap (outcome L) (run-cut r P b A) ∙ D .is L (v .words-long) (v .class-long);
+                      longer = D .longer;
+                      made = cuts.cutClass P p (D .conclusion);
+                      last = D .last;
+                      grows = D .grows;
+                      few = record { vars = omega arith; flex = omega arith; fixed = omega arith; entries = omega arith; renamings = omega arith };
+                      vars = refl;
+                      flex = refl;
+                      fixed = refl;
+                      entries = refl;
+                      renamings = refl;
+                    }))),
+                C .3,
+                (let laid = K .asks .standing .placed .laid in outside-wider (l .rows) (l .copied) (l .rows) (l .end) work work′ (omega arith) (omega (arith, laid .memo, laid .stack, laid .variables, laid .table)) (C .4)),
+                C .5,
+              )
+          makes-cut work′ class′ words′ (Refused x) C = λ r P b A L v. ap (outcome L) (run-cut r P b A) ∙ C cells r memo P b (asks-cut r P b A) L (v .words-long) (v .class-long)
 
         -- ---- it is not
         module _ (e : t ≡ false) (u : Ruling) (step-is : u .step ≡ s) (U : OfHeld bytes work c (λ P. RulingOf P u)) where
@@ -251,48 +244,24 @@ module _ (bytes work class words cells : List ℕ) (c : Catalog) (k : Keying) (l
               let Q = A .standing .proper in
               rule-run r P b A s S (sym (T P R Q) ∙ e) u step-is (U P R Q)
 
-          -- it has few variables and premises
-          pub making-few : (u .vars ≤ 64) × (u .premises ≤ 16)
-          making-few =
-              let P = K .pack in
-              let R = K .asks .standing .reads in
-              let Q = K .asks .standing .proper in
-              let W = U P R Q in
-              let g = Q .good .rules (u .rule) (rule-given (K .counts) P (K .built) (K .asks) s S (sym (T P R Q) ∙ e) u step-is W) in
-              (omega (arith, W .vars, g .variables), omega (arith, W .premises, g .arity))
-
-          pub making-rule : rules.Making bytes work class words cells c k l st memo (take (u .vars - 0) (drop 0 env)) u instances fill i
+          pub making-rule : rules.Making bytes work class words cells c k l st memo u fill i
           making-rule = record {
             counts = K .counts;
             pack = K .pack;
             built = K .built;
             asks = asks-rule (K .counts) (K .pack) (K .built) (K .asks);
-            env-is = ap (λ (xs : List ℕ). take (u .vars - 0) (drop 0 xs)) (K .env-is) ∙ up-lent (upTo 64) (u .vars) (up-first 64 (u .vars) (making-few .0));
-            room = omega (arith, making-few .1, K .room);
             small-cells = K .small-cells;
             small = K .small;
           }
 
-          -- a refusal of its run
-          refused : (x : Reason) → rules.RefusedBy bytes work class words cells c k l st memo u fill i x → Whatever bytes work class words cells c k l st memo fill i (λ r P b. RefusedRun class words cells (classRun P b i) x)
-          refused x F r P b A L v = ap (outcome L) (run-rule r P b A) ∙ F r P b (asks-rule r P b A) L v
-
-          -- the step of a refusal
-          at-step : (f : ℕ → Reason) → rules.RefusedBy bytes work class words cells c k l st memo u fill i (f (u .step)) → rules.RefusedBy bytes work class words cells c k l st memo u fill i (f s)
-          at-step f F = subst (λ (q : ℕ). rules.RefusedBy bytes work class words cells c k l st memo u fill i (f q)) step-is F
-
           -- it is made, or not
-          pub makes-rule : (work′ class′ words′ cells′ : List ℕ) (m : RuleMade) → rules.Makes bytes work class words cells work′ class′ words′ cells′ c k l st memo u fill i m
-              → Makes bytes work class words cells work′ class′ words′ cells′ c k l st memo fill i (ofRule m s)
-          makes-rule work′ class′ words′ cells′ (rule.Made st′ memo′ fill′ f) D = (
-            (λ r P b A. subst (Done class words cells bytes work′ class′ words′ cells′ c k l r st′ memo′ fill′ f P b) (sym (run-rule r P b A)) (D .0 r P b (asks-rule r P b A))),
-            D .1,
+          pub makes-rule : (work′ class′ words′ cells′ : List ℕ) (m : ClassMade) → rules.Makes bytes work class words cells work′ class′ words′ cells′ c k l st memo u fill i m
+              → Makes bytes work class words cells work′ class′ words′ cells′ c k l st memo fill i m
+          makes-rule work′ class′ words′ cells′ (Made s′ f) D = (
+            D .0,
+            (λ r P b A. subst (Done class words cells bytes work′ class′ words′ cells′ c k l r (s′ .store) (s′ .memo) (s′ .fill) f P b) (sym (run-rule r P b A)) (D .1 r P b (asks-rule r P b A))),
             D .2,
             D .3,
+            D .4,
           )
-          makes-rule work′ class′ words′ cells′ rule.Clash D = refused (refusal.Clash s) (at-step refusal.Clash D)
-          makes-rule work′ class′ words′ cells′ rule.Circle D = refused (refusal.Circle s) (at-step refusal.Circle D)
-          makes-rule work′ class′ words′ cells′ rule.Differs D = refused (refusal.Instance s) (at-step refusal.Instance D)
-          makes-rule work′ class′ words′ cells′ rule.ShortGraph D = refused (refusal.Short 3) D
-          makes-rule work′ class′ words′ cells′ rule.ShortPatterns D = refused (refusal.Short 2) D
-          makes-rule work′ class′ words′ cells′ rule.ShortRows D = refused (refusal.Short 1) D
+          makes-rule work′ class′ words′ cells′ (Refused x) D = λ r P b A L v. ap (outcome L) (run-rule r P b A) ∙ D r P b (asks-rule r P b A) L v

@@ -1,5 +1,4 @@
--- One class's answer, and the sums over all.
-pub mod Answer
+-- The figures' sums.
 pub mod Totals
 -- The classes of a pack, made: what is asked, and what is answered.
 pub mod Class

@@ -6,11 +6,10 @@ use native.Mathlib.Omega.{arith}
 use Rattle.definition.specs.Classes.{Class}
 use Rattle.definition.specs.Figures.{total, classVars, flexVars}
 use Rattle.class_rule.specs.Done.{Few}
-use Rattle.class_rule.specs.declared.rule.Counted.{Counted}
-use Rattle.class_all.specs.declared.totals.Totals.{Totals}
+use Rattle.class_premises.specs.declared.building.Counted.{Counted}
 
 -- no sum is too great for a word
-pub record Addable (t : Totals) (f : Counted) : Type 0 where
+pub record Addable (t f : Counted) : Type 0 where
   pub vars : t .vars + f .vars < 18446744073709551616
   pub flex : t .flex + f .flex < 18446744073709551616
   pub fixed : t .fixed + f .fixed < 18446744073709551616
@@ -18,15 +17,15 @@ pub record Addable (t : Totals) (f : Counted) : Type 0 where
   pub renamings : t .renamings + f .renamings < 18446744073709551616
 
 -- one class more
-abbrev pub summed : Totals → Counted → Totals
+abbrev pub summed : Counted → Counted → Counted
 summed t f = record { vars = t .vars + f .vars; flex = t .flex + f .flex; fixed = t .fixed + f .fixed; entries = t .entries + f .entries; renamings = t .renamings + f .renamings }
 
 -- of no class
-abbrev pub noTotals : Totals
+abbrev pub noTotals : Counted
 noTotals = record { vars = 0; flex = 0; fixed = 0; entries = 0; renamings = 0 }
 
 -- these are the sums over classes cs
-pub record Sums (t : Totals) (cs : List Class) : Type 0 where
+pub record Sums (t : Counted) (cs : List Class) : Type 0 where
   pub vars : total classVars cs ≡ t .vars
   pub flex : total flexVars cs ≡ t .flex
   pub fixed : total (λ (x : Class). x .fixed) cs ≡ t .fixed
@@ -34,7 +33,7 @@ pub record Sums (t : Totals) (cs : List Class) : Type 0 where
   pub renamings : total (λ (x : Class). x .renamings) cs ≡ t .renamings
 
 -- they are no more than i classes give
-pub record Low (t : Totals) (i : ℕ) : Type 0 where
+pub record Low (t : Counted) (i : ℕ) : Type 0 where
   pub vars : t .vars ≤ 4294967295 * i
   pub flex : t .flex ≤ 4294967295 * i
   pub fixed : t .fixed ≤ 4294967295 * i
@@ -59,7 +58,7 @@ total-more g (c ∷ cs) x = omega (arith, total-more g cs x)
 more : (g : Class → ℕ) (cs : List Class) (x : Class) (n m : ℕ) → total g cs ≡ n → g x ≡ m → total g (cs ++ (x ∷ [])) ≡ n + m
 more g cs x n m e f = total-more g cs x ∙ ap₂ _+_ e f
 
-pub sums-more : (t : Totals) (f : Counted) (cs : List Class) (x : Class) → Sums t cs → classVars x ≡ f .vars → flexVars x ≡ f .flex → x .fixed ≡ f .fixed → x .entries ≡ f .entries → x .renamings ≡ f .renamings
+pub sums-more : (t f : Counted) (cs : List Class) (x : Class) → Sums t cs → classVars x ≡ f .vars → flexVars x ≡ f .flex → x .fixed ≡ f .fixed → x .entries ≡ f .entries → x .renamings ≡ f .renamings
     → Sums (summed t f) (cs ++ (x ∷ []))
 sums-more t f cs x S v w y z u = record {
   vars = more classVars cs x (t .vars) (f .vars) (S .vars) v;
@@ -69,7 +68,7 @@ sums-more t f cs x S v w y z u = record {
   renamings = more (λ (x : Class). x .renamings) cs x (t .renamings) (f .renamings) (S .renamings) u;
 }
 
-module _ (t : Totals) (f : Counted) (i n : ℕ) (small : n < 4294967295) (F : Few n f) (L : Low t i) where
+module _ (t f : Counted) (i n : ℕ) (small : n < 4294967295) (F : Few n f) (L : Low t i) where
   pub low-more : Low (summed t f) (i + 1)
   low-more = record {
     vars = omega (arith, L .vars, F .vars);

@@ -1,48 +1,28 @@
 // All classes made, in the order of their first steps.
-use crate::answer::ClassMade;
 use crate::class::make_class;
-use crate::totals::Totals;
 use crate::totals::add_counted;
-use base::limit::Limit;
-use class_keys::classes::Keying;
-use class_premises::layout::Layout;
-use definition::Refusal;
-use memo::memo::Memo;
-use pack_tables::catalog::Catalog;
-use store::nodes::Store;
-use term_instantiate::count::count_up;
-ghost use Rattle.class_all.specs.All.{Starting, Beginning, Builds};
+use class_premises::building::Building;
+use class_premises::building::ClassMade;
+use class_premises::building::Counted;
+ghost use Rattle.class_premises.specs.Buffers.{lent};
+ghost use Rattle.class_all.specs.All.{BeginningIn, BuildsIn};
 
-// The store and the copies' memo as they are then, where the last row ends, and the sums; or why a class is not made.
-pub enum Building {
-    Built(Store, Memo, usize, Totals),
-    Refused(Refusal),
-}
-
-// The first `count` classes; `env` are the numbers 0 to 63.
-fn build_classes(
+// The `count` classes that the keys count, where none is made yet, with the sums of what figures count. A refusal leaves open what the
+// buffers but the pack hold then.
+pub fn make_classes(
     pack: &[u8],
     work: &mut [u32],
     class: &mut [u32],
     words: &mut [u32],
     cells: &mut [u32],
-    c: Catalog,
-    k: Keying,
-    l: Layout,
-    st: Store,
-    memo: Memo,
-    env: &[u32],
-    instances: &mut [u32],
+    s: Building,
     count: usize,
-    fill: usize,
-) -> Building
-    requires { ⌜ Starting (now pack) (now work) (now class) (now words) (now cells) c k l st memo (now env) (now instances) count fill ⌝ }
-    ensures { λ r. ⌜ Builds (now (pack .entry)) (now (work .entry)) (now (class .entry)) (now (words .entry)) (now (cells .entry)) (now (work .exit)) (now (class .exit)) (now (words .exit)) (now (cells .exit)) c k l st memo count fill r ⌝ }
+) -> ClassMade
+    requires { ⌜ BeginningIn (lent (now pack) (now class) (now words) (now cells) (now work)) s count ⌝ }
+    ensures { λ r. ⌜ BuildsIn (lent (now (pack .entry)) (now (class .entry)) (now (words .entry)) (now (cells .entry)) (now (work .entry))) (lent (now (pack .entry)) (now (class .exit)) (now (words .exit)) (now (cells .exit)) (now (work .exit))) s count r ⌝ }
 {
-    let mut store = st;
-    let mut known = memo;
-    let mut end = fill;
-    let mut sums = Totals {
+    let mut at = s;
+    let mut sums = Counted {
         vars: 0,
         flex: 0,
         fixed: 0,
@@ -51,72 +31,16 @@ fn build_classes(
     };
     let mut i: usize = 0;
     while i < count {
-        match make_class(
-            pack,
-            work,
-            class,
-            words,
-            cells,
-            c,
-            k,
-            l,
-            store,
-            known,
-            env,
-            instances,
-            end,
-            i,
-        ) {
-            ClassMade::Made(more, seen, to, f) => {
+        match make_class(pack, work, class, words, cells, at, i) {
+            ClassMade::Made(more, f) => {
                 sums = add_counted(sums, f);
-                store = more;
-                known = seen;
-                end = to;
+                at = more;
                 i += 1;
             }
             ClassMade::Refused(x) => {
-                return Building::Refused(x);
+                return ClassMade::Refused(x);
             }
         }
     }
-    Building::Built(store, known, end, sums)
-}
-
-// The `count` classes that the keys count, where none is made yet; the first row begins at `fill`.
-pub fn make_classes(
-    pack: &[u8],
-    work: &mut [u32],
-    class: &mut [u32],
-    words: &mut [u32],
-    cells: &mut [u32],
-    c: Catalog,
-    k: Keying,
-    l: Layout,
-    st: Store,
-    memo: Memo,
-    count: usize,
-    fill: usize,
-) -> Building
-    requires { ⌜ Beginning (now pack) (now work) (now class) (now words) (now cells) c k l st memo count fill ⌝ }
-    ensures { λ r. ⌜ Builds (now (pack .entry)) (now (work .entry)) (now (class .entry)) (now (words .entry)) (now (cells .entry)) (now (work .exit)) (now (class .exit)) (now (words .exit)) (now (cells .exit)) c k l st memo count fill r ⌝ }
-{
-    let mut env = [0; Limit::VARIABLES];
-    count_up(&mut env, Limit::VARIABLES);
-    let mut instances = [0; Limit::PREMISES];
-    build_classes(
-        pack,
-        work,
-        class,
-        words,
-        cells,
-        c,
-        k,
-        l,
-        st,
-        memo,
-        &env,
-        &mut instances,
-        count,
-        fill,
-    )
+    ClassMade::Made(at, sums)
 }

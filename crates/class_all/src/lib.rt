@@ -1,5 +1,4 @@
-// What making a class comes to, and the figures' sums over the classes.
-pub mod answer;
+// The figures' sums over the classes.
 pub mod totals;
 // The classes of a pack's needed steps, made one by one.
 pub mod all;

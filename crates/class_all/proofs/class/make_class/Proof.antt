@@ -1,48 +1,42 @@
 -- `make_class` meets its contract.
 use borrow.Author.Needs.{needs}
-use native.Mathlib.Omega.{arith}
-use Rattle.class_all.specs.Class.{making-first, making-held, making-marks, making-env, making-step, making-cut, makes-cut, making-few, making-rule, makes-rule}
+use Rattle.class_all.specs.Class.{making-first, making-held, making-marks, making-step, making-cut, makes-cut, making-rule, makes-rule}
 use Rattle.class_all.proofs.class.make_class.Statement.{statement}
 use Rattle.class_all.proofs.class.make_class.Tie as tie
 
 class-first-requires : tie.Need-class-first-requires
-class-first-requires c κs = making-first _ _ _ _ _ _ _ _ _ _ _ _ _ _ (c .before .before .before .before .before .before .before .before .pre)
+class-first-requires c κs = making-first _ _ _ _ _ _ _ _ _ _ _ _ (c .before .before .before .before .before .before .pre)
 
 step-is-cut-requires : tie.Need-step-is-cut-requires
 step-is-cut-requires c κs =
-    let K = c .before .before .before .before .before .before .before .before .before .before .pre in
-    (making-held _ _ _ _ _ _ _ _ _ _ _ _ _ _ K, making-marks _ _ _ _ _ _ _ _ _ _ _ _ _ _ K, making-step _ _ _ _ _ _ _ _ _ _ _ _ _ _ K _ (c .before .class-first .ensures))
+    let K = c .before .before .before .before .before .before .before .before .pre in
+    (making-held _ _ _ _ _ _ _ _ _ _ _ _ K, making-marks _ _ _ _ _ _ _ _ _ _ _ _ K, making-step _ _ _ _ _ _ _ _ _ _ _ _ K _ (c .before .class-first .ensures))
 
 step-predicate-requires : tie.Need-step-predicate-requires
 step-predicate-requires c κs =
-    let K = c .before .before .before .before .before .before .before .before .before .before .before .before .before .pre in
-    (making-held _ _ _ _ _ _ _ _ _ _ _ _ _ _ K, making-step _ _ _ _ _ _ _ _ _ _ _ _ _ _ K _ (c .before .before .before .before .class-first .ensures))
+    let K = c .before .before .before .before .before .before .before .before .before .before .before .pre in
+    (making-held _ _ _ _ _ _ _ _ _ _ _ _ K, making-step _ _ _ _ _ _ _ _ _ _ _ _ K _ (c .before .before .before .before .class-first .ensures))
 
 make-cut-requires : tie.Need-make-cut-requires
-make-cut-requires c κs = making-cut _ _ _ _ _ _ _ _ _ _ _ _ _ _ (c .before .before .before .before .before .before .before .before .before .before .before .before .before .before .before .before .before .pre) _ (c .before .before .before .before .before .before .before .before .class-first .ensures) _ (c .before .before .before .before .before .before .step-is-cut .ensures) (c .before .before .before .before .before .if1 .taken) _ (c .before .before .before .step-predicate .ensures)
+make-cut-requires c κs = making-cut _ _ _ _ _ _ _ _ _ _ _ _ (c .before .before .before .before .before .before .before .before .before .before .before .before .before .before .before .pre) _ (c .before .before .before .before .before .before .before .before .class-first .ensures) _ (c .before .before .before .before .before .before .step-is-cut .ensures) (c .before .before .before .before .before .if1 .taken) _ (c .before .before .before .step-predicate .ensures)
 
 returns : tie.Need-returns
 returns c =
-    let f = c .before .before .before .before .before .before .before .make-cut in
-    let M = makes-cut _ _ _ _ _ _ _ _ _ _ _ _ _ _ (c .before .before .before .before .before .before .before .before .before .before .before .before .before .before .before .before .before .before .before .before .before .before .before .before .before .pre) _ (c .before .before .before .before .before .before .before .before .before .before .before .before .before .before .before .before .class-first .ensures) _ (c .before .before .before .before .before .before .before .before .before .before .before .before .before .before .step-is-cut .ensures) (c .before .before .before .before .before .before .before .before .before .before .before .before .before .if1 .taken) _ (c .before .before .before .before .before .before .before .before .before .before .before .step-predicate .ensures) (f .last .1 .0) (f .last .1 .1 .0) (f .last .1 .1 .1 .0) (f .result) (f .ensures) in
-    rw (c .cut-made .ensures) M
+    let f = c .before .before .before .before .before .before .make-cut in
+    makes-cut _ _ _ _ _ _ _ _ _ _ _ _ (c .before .before .before .before .before .before .before .before .before .before .before .before .before .before .before .before .before .before .before .before .before .before .pre) _ (c .before .before .before .before .before .before .before .before .before .before .before .before .before .before .before .class-first .ensures) _ (c .before .before .before .before .before .before .before .before .before .before .before .before .before .step-is-cut .ensures) (c .before .before .before .before .before .before .before .before .before .before .before .before .if1 .taken) _ (c .before .before .before .before .before .before .before .before .before .before .step-predicate .ensures) (f .last .1 .0) (f .last .1 .1 .0) (f .last .1 .1 .1 .0) (f .result) (f .ensures)
 
 step-ruling-requires : tie.Need-step-ruling-requires
 step-ruling-requires c κs =
-    let K = c .before .before .before .before .before .before .before .before .before .before .before .before .before .pre in
-    (making-held _ _ _ _ _ _ _ _ _ _ _ _ _ _ K, making-step _ _ _ _ _ _ _ _ _ _ _ _ _ _ K _ (c .before .before .before .before .class-first .ensures))
-
-part-make-rule-end : tie.Need-part-make-rule-end
-part-make-rule-end c = omega (arith, making-few _ _ _ _ _ _ _ _ _ _ _ _ _ _ (c .before .before .before .before .before .before .before .before .before .before .before .before .before .before .before .before .before .before .pre) _ (c .before .before .before .before .before .before .before .before .before .class-first .ensures) _ (c .before .before .before .before .before .before .before .step-is-cut .ensures) (c .before .before .before .before .before .before .if1 .left) _ (c .before .before .before .before .step-ruling .ensures .0) (c .before .before .before .before .step-ruling .ensures .1) .0, making-env _ _ _ _ _ _ _ _ _ _ _ _ _ _ (c .before .before .before .before .before .before .before .before .before .before .before .before .before .before .before .before .before .before .pre))
+    let K = c .before .before .before .before .before .before .before .before .before .before .before .pre in
+    (making-held _ _ _ _ _ _ _ _ _ _ _ _ K, making-step _ _ _ _ _ _ _ _ _ _ _ _ K _ (c .before .before .before .before .class-first .ensures))
 
 make-rule-requires : tie.Need-make-rule-requires
-make-rule-requires c κs = making-rule _ _ _ _ _ _ _ _ _ _ _ _ _ _ (c .before .before .before .before .before .before .before .before .before .before .before .before .before .before .before .before .before .before .before .before .pre) _ (c .before .before .before .before .before .before .before .before .before .before .before .class-first .ensures) _ (c .before .before .before .before .before .before .before .before .before .step-is-cut .ensures) (c .before .before .before .before .before .before .before .before .if1 .left) _ (c .before .before .before .before .before .before .step-ruling .ensures .0) (c .before .before .before .before .before .before .step-ruling .ensures .1)
+make-rule-requires c κs = making-rule _ _ _ _ _ _ _ _ _ _ _ _ (c .before .before .before .before .before .before .before .before .before .before .before .before .before .before .before .before .pre) _ (c .before .before .before .before .before .before .before .before .before .class-first .ensures) _ (c .before .before .before .before .before .before .before .step-is-cut .ensures) (c .before .before .before .before .before .before .if1 .left) _ (c .before .before .before .before .step-ruling .ensures .0) (c .before .before .before .before .step-ruling .ensures .1)
 
 returns-2 : tie.Need-returns-2
 returns-2 c =
-    let f = c .before .before .before .before .before .before .before .before .before .before .before .make-rule in
-    let M = makes-rule _ _ _ _ _ _ _ _ _ _ _ _ _ _ (c .before .before .before .before .before .before .before .before .before .before .before .before .before .before .before .before .before .before .before .before .before .before .before .before .before .before .before .before .before .before .before .before .pre) _ (c .before .before .before .before .before .before .before .before .before .before .before .before .before .before .before .before .before .before .before .before .before .before .before .class-first .ensures) _ (c .before .before .before .before .before .before .before .before .before .before .before .before .before .before .before .before .before .before .before .before .before .step-is-cut .ensures) (c .before .before .before .before .before .before .before .before .before .before .before .before .before .before .before .before .before .before .before .before .if1 .left) _ (c .before .before .before .before .before .before .before .before .before .before .before .before .before .before .before .before .before .before .step-ruling .ensures .0) (c .before .before .before .before .before .before .before .before .before .before .before .before .before .before .before .before .before .before .step-ruling .ensures .1) (f .last .1 .0) (f .last .1 .1 .0) (f .last .1 .1 .1 .0) (f .last .1 .1 .1 .1 .0) (f .result) (f .ensures) in
-    rw (c .rule-made .ensures) M
+    let f = c .before .before .before .before .before .before .before .before .make-rule in
+    makes-rule _ _ _ _ _ _ _ _ _ _ _ _ (c .before .before .before .before .before .before .before .before .before .before .before .before .before .before .before .before .before .before .before .before .before .before .before .before .before .pre) _ (c .before .before .before .before .before .before .before .before .before .before .before .before .before .before .before .before .before .before .class-first .ensures) _ (c .before .before .before .before .before .before .before .before .before .before .before .before .before .before .before .before .step-is-cut .ensures) (c .before .before .before .before .before .before .before .before .before .before .before .before .before .before .before .if1 .left) _ (c .before .before .before .before .before .before .before .before .before .before .before .before .before .step-ruling .ensures .0) (c .before .before .before .before .before .before .before .before .before .before .before .before .before .step-ruling .ensures .1) (f .last .1 .0) (f .last .1 .1 .0) (f .last .1 .1 .1 .0) (f .last .1 .1 .1 .1 .0) (f .result) (f .ensures)
 
 pub make-class-spec : {M : Type 1} → statement M
 make-class-spec =
@@ -52,18 +46,12 @@ make-class-spec =
     step-is-cut-requires
     step-predicate-requires
     make-cut-requires
-    (λ c κs. search needs)
     (λ c. search needs)
     (λ c. search needs)
     (λ c. search needs)
     returns
     step-ruling-requires
-    (λ c. search needs)
-    (λ c. search needs)
-    part-make-rule-end
     make-rule-requires
-    (λ c κs. search needs)
-    (λ c. search needs)
     (λ c. search needs)
     (λ c. search needs)
     (λ c. search needs)

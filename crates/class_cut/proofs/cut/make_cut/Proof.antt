@@ -73,8 +73,8 @@ make-cut-spec =
     symbol-arity-requires
     sub-if1
     add-if1
-    (λ c. search needs)
-    (λ c. search needs)
+    (λ c. search)
+    (λ c. search)
     returns
     write-cut-requires
     (λ c. search needs)
@@ -82,9 +82,9 @@ make-cut-spec =
     (λ c κs. search needs)
     (λ c. search needs)
     same-length-3
-    (λ c. search needs)
+    (λ c. search)
     same-length-5
     returns-2
-    (λ c. search needs)
-    (λ c. search needs)
+    (λ c. search)
+    (λ c. search)
     returns-3)

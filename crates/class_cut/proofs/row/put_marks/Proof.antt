@@ -37,5 +37,5 @@ put-marks-spec =
     (λ c. search needs)
     (λ c. search needs)
     loop-again
-    (λ c. search needs)
+    (λ c. search)
     returns)
