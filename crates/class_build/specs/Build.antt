@@ -26,33 +26,42 @@ use Rattle.class_premises.specs.declared.layout.Layout.{Layout}
 use Rattle.class_premises.specs.Standing.{Standing}
 use Rattle.class_rule.specs.Done.{Lends}
 use Rattle.class_all.specs.Totals.{Sums}
-use Rattle.class_all.specs.declared.totals.Totals.{Totals}
+use Rattle.class_premises.specs.declared.building.Counted.{Counted}
+use Rattle.class_premises.specs.declared.building.Building.{Building}
+use Rattle.class_premises.specs.Buffers.{Buffers}
 use Rattle.class_build.specs.Ready.{unbuilt}
 use Rattle.class_build.specs.declared.build.Answer.{Answer}
 use Rattle.class_build.specs.declared.build.Answer.the-variants as answers
 
 -- ---- the goals
 -- all classes of pack P are made, and these are the sums
-pub record Ended (bytes work class words cells : List ℕ) (c : Catalog) (k : Keying) (l : Layout) (r : Counts) (st : Store) (fill : ℕ) (sums : Totals) (P : Pack) (b : Built) : Type 0 where
+pub record Ended (bytes work class words cells : List ℕ) (c : Catalog) (k : Keying) (l : Layout) (r : Counts) (st : Store) (fill : ℕ) (sums : Counted) (P : Pack) (b : Built) : Type 0 where
   pub memo : Memo
   pub standing : Standing bytes work class words cells c k l r st memo fill P b
   pub all : length (b .classes) ≡ length (keysOf P .classes)
   pub summed : Sums sums (b .classes)
 
 -- it is so of some pack, and there is room for the goals' tests
-pub record Testing (bytes work class words cells : List ℕ) (c : Catalog) (k : Keying) (l : Layout) (r : Counts) (st : Store) (fill : ℕ) (sums : Totals) : Type 0 where
+pub record Testing (bytes work class words cells : List ℕ) (c : Catalog) (k : Keying) (l : Layout) (r : Counts) (st : Store) (fill : ℕ) (sums : Counted) : Type 0 where
   pub pack : Pack
   pub built : Built
   pub ended : Ended bytes work class words cells c k l r st fill sums pack built
   pub room : l .copied + (3 * length words + 2 * (length cells + 16)) ≤ length work
 
 -- what `finish` answers
-abbrev pub Ends : List ℕ → List ℕ → List ℕ → List ℕ → List ℕ → Catalog → Keying → Layout → Counts → Store → ℕ → Totals → Answer → Type 0
+abbrev pub Ends : List ℕ → List ℕ → List ℕ → List ℕ → List ℕ → Catalog → Keying → Layout → Counts → Store → ℕ → Counted → Answer → Type 0
 Ends bytes work class words cells c k l r st fill sums (answers.Done n m f) =
     (n ≡ fill) × (m ≡ st .used)
     × ((P : Pack) (b : Built) → Ended bytes work class words cells c k l r st fill sums P b → (rs : List Root) × ((L : Lent) → outcome L (testGoals P b 0 (P .goals)) ≡ fine rs) × (f ≡ figures P b))
 Ends bytes work class words cells c k l r st fill sums (answers.Refused x) =
     (P : Pack) (b : Built) → Ended bytes work class words cells c k l r st fill sums P b → (L : Lent) → outcome L (testGoals P b 0 (P .goals)) ≡ refuse x
+
+-- both of buffers that are lent and what is at hand
+abbrev pub TestingIn : Buffers → Building → Counts → Counted → Type 0
+TestingIn B s r sums = Testing (B .pack) (B .work) (B .class) (B .pattern) (B .graph) (s .catalog) (s .keying) (s .layout) r (s .store) (s .fill) sums
+
+abbrev pub EndsIn : Buffers → Building → Counts → Counted → Answer → Type 0
+EndsIn B s r sums a = Ends (B .pack) (B .work) (B .class) (B .pattern) (B .graph) (s .catalog) (s .keying) (s .layout) r (s .store) (s .fill) sums a
 
 -- ---- what is answered in the end
 -- the definition's run is done, and these are its words and figures
@@ -90,6 +99,13 @@ Goes bytes work class words cells class′ words′ c k l r st memo fill (answer
 Goes bytes work class words cells class′ words′ c k l r st memo fill (answers.Refused x) =
     (P : Pack) → Begun bytes work class words cells c k l r st memo fill P → ((L : Lent) → L .class ≡ length class → outcome L (buildClasses P) ≡ outcome L (restRun P))
     → (L : Lent) → Lends L class words cells → outcome L (classRun P) ≡ refuse x
+
+-- both of buffers that are lent and what is at hand
+abbrev pub BeginningIn : Buffers → Building → Counts → Type 0
+BeginningIn B s r = Beginning (B .pack) (B .work) (B .class) (B .pattern) (B .graph) (s .catalog) (s .keying) (s .layout) r (s .store) (s .memo) (s .fill)
+
+abbrev pub GoesIn : Buffers → Buffers → Building → Counts → Answer → Type 0
+GoesIn B B′ s r a = Goes (B .pack) (B .work) (B .class) (B .pattern) (B .graph) (B′ .class) (B′ .pattern) (s .catalog) (s .keying) (s .layout) r (s .store) (s .memo) (s .fill) a
 
 -- ---- the whole
 -- what `build` answers of the pack that is held

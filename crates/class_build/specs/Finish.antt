@@ -27,18 +27,13 @@ use Rattle.class_premises.specs.declared.layout.Layout.{Layout}
 use Rattle.class_premises.specs.Standing.{liftedOf, standing-held, standing-keyed, standing-behind}
 use Rattle.term_instance.specs.declared.tables.Instance.{Instance}
 use Rattle.class_build.specs.Tests.{Made}
-use Rattle.class_all.specs.declared.totals.Totals.{Totals}
+use Rattle.class_premises.specs.declared.building.Counted.{Counted}
 use Rattle.class_build.specs.Figures.{Figured}
-use Rattle.class_build.specs.declared.figures.Totals.{Totals as Sums}
 use Rattle.class_build.specs.GoalTables.{testTables}
 use Rattle.class_build.specs.LeftWords.{pattern-fits}
 use Rattle.class_build.specs.Build.{Ended, Testing}
 
--- the sums as figures have them
-abbrev pub sumsOf : Totals → Sums
-sumsOf t = record { «class_vars» = t .vars; «flex_vars» = t .flex; «fixed_vars» = t .fixed; «subst_entries» = t .entries; «subst_renamings» = t .renamings }
-
-module _ (bytes work class words cells : List ℕ) (c : Catalog) (k : Keying) (l : Layout) (r : Counts) (st : Store) (fill : ℕ) (t : Totals) (T : Testing bytes work class words cells c k l r st fill t) where
+module _ (bytes work class words cells : List ℕ) (c : Catalog) (k : Keying) (l : Layout) (r : Counts) (st : Store) (fill : ℕ) (t : Counted) (T : Testing bytes work class words cells c k l r st fill t) where
   -- the tables' places stand in work
   pub tests-fit : (l .lifted + 3 * l .nodes ≤ l .copied) × (l .copied + 2 * st .used + 2 * st .len + 2 * (length cells + 16) ≤ length work)
   tests-fit =
@@ -81,7 +76,7 @@ module _ (bytes work class words cells : List ℕ) (c : Catalog) (k : Keying) (l
       omega (arith, e, S .keyed .keyable .room, S .keyed .keyable .steps, K .few, length-steps bytes (recordsOf work c) (T .pack) (S .reads))
 
 -- the figures are the definition's
-module _ (bytes work class words cells : List ℕ) (c : Catalog) (k : Keying) (l : Layout) (r : Counts) (st : Store) (fill : ℕ) (t : Totals) (P : Pack) (b : Built)
+module _ (bytes work class words cells : List ℕ) (c : Catalog) (k : Keying) (l : Layout) (r : Counts) (st : Store) (fill : ℕ) (t : Counted) (P : Pack) (b : Built)
     (E : Ended bytes work class words cells c k l r st fill t P b) (i : Instance) (e : i ≡ testTables (length cells) l st) (work′ : List ℕ) (O : Outside (i .pairs) (i .end) work work′) where
   -- the keys are as they were
   keys-stay : Upto (endOf k) work work′
@@ -97,7 +92,7 @@ module _ (bytes work class words cells : List ℕ) (c : Catalog) (k : Keying) (l
       let same = upto-same (endOf k) work work′ c keys-stay (omega (arith, S .keyed .keyable .behind)) in
       keyed-work-on bytes work work′ class class c k r keys-stay refl (λ j h. refl) (S .keyed) .keyed P (reads-on bytes work work′ c same (standing-held bytes work class words cells c k l r st (E .memo) fill P b S .cataloged) P (S .reads)) (S .proper)
 
-  pub figures-are : (f : Figures) → Figured work′ k r (l .nodes) st (sumsOf t) f → f ≡ figures P b
+  pub figures-are : (f : Figures) → Figured work′ k r (l .nodes) st t f → f ≡ figures P b
   figures-are f F =
       let S = E .standing in
       F class (indexIn work (liftedOf l)) words P b (record {
@@ -106,11 +101,5 @@ module _ (bytes work class words cells : List ℕ) (c : Catalog) (k : Keying) (l
         ground = S .lifts .laid .many ∙ sym (length-nodes bytes (recordsOf work c) P (S .reads));
         stored = S .lifts .laid .index;
         store = S .store;
-        summed = record {
-          class-vars = sym (E .summed .vars);
-          flex-vars = sym (E .summed .flex);
-          fixed-vars = sym (E .summed .fixed);
-          entries = sym (E .summed .entries);
-          renamings = sym (E .summed .renamings);
-        };
+        summed = E .summed;
       })

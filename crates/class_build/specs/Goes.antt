@@ -18,12 +18,14 @@ use Rattle.class_keys.specs.declared.classes.Counts.{Counts}
 use Rattle.class_premises.specs.declared.layout.Layout.{Layout}
 use Rattle.class_premises.specs.Standing.{Standing, standing-held}
 use Rattle.class_all.specs.All as all
-use Rattle.class_all.specs.declared.totals.Totals.{Totals}
-use Rattle.class_all.specs.declared.all.Building.the-variants as building
+use Rattle.class_premises.specs.declared.building.Building.{Building}
+use Rattle.class_premises.specs.declared.building.Counted.{Counted}
+use Rattle.class_premises.specs.declared.building.ClassMade.the-variants as classes
+use Rattle.class_premises.specs.Buffers.{lent}
 use Rattle.class_build.specs.Ready.{Opened, Readies, Starts, unbuilt}
 use Rattle.class_build.specs.declared.ready.Ready.the-variants as ready
 use Rattle.class_build.specs.LeftWords.{class-words, class-fits, pattern-words, pattern-fits}
-use Rattle.class_build.specs.Build.{Ended, Testing, Ends, Begun, Beginning, Goes, Builds, run-unbuilt, run-untested, run-done}
+use Rattle.class_build.specs.Build.{Ended, TestingIn, Ends, EndsIn, Begun, Beginning, Goes, Builds, run-unbuilt, run-untested, run-done}
 use Rattle.class_build.specs.declared.build.Answer.{Answer}
 use Rattle.class_build.specs.declared.build.Answer.the-variants as answers
 
@@ -37,25 +39,27 @@ module _ (bytes work class words cells : List ℕ) (c : Catalog) (k : Keying) (l
   begins-classes K = record { counts = r; pack = K .pack; built = unbuilt (K .pack); begins = begins (K .pack) (K .begun); small-cells = K .small-cells; small = K .small-class }
 
   -- none is made
-  pub goes-unbuilt : (work′ class′ words′ cells′ : List ℕ) (x : Refusal) → all.Builds bytes work class words cells work′ class′ words′ cells′ c k l st memo (r .classes) fill (building.Refused x) → Goes bytes work class words cells class′ words′ c k l r st memo fill (answers.Refused x)
+  pub goes-unbuilt : (work′ class′ words′ cells′ : List ℕ) (x : Refusal) → all.Builds bytes work class words cells work′ class′ words′ cells′ c k l st memo (r .classes) fill (classes.Refused x) → Goes bytes work class words cells class′ words′ c k l r st memo fill (answers.Refused x)
   goes-unbuilt work′ class′ words′ cells′ x B P S same L e = run-unbuilt L P x (same L (e .class-long) ∙ B r P (unbuilt P) (begins P S) L e)
 
   -- all are
-  module _ (work′ class′ words′ cells′ : List ℕ) (st′ : Store) (memo′ : Memo) (fill′ : ℕ) (t : Totals)
-      (B : all.Builds bytes work class words cells work′ class′ words′ cells′ c k l st memo (r .classes) fill (building.Built st′ memo′ fill′ t)) where
-    done : (P : Pack) → Begun bytes work class words cells c k l r st memo fill P → all.AllDone class words cells bytes work′ class′ words′ cells′ c k l r st′ memo′ fill′ t P (unbuilt P)
-    done P S = B .0 r P (unbuilt P) (begins P S)
+  module _ (work′ class′ words′ cells′ : List ℕ) (s : Building) (t : Counted)
+      (B : all.Builds bytes work class words cells work′ class′ words′ cells′ c k l st memo (r .classes) fill (classes.Made s t)) where
+    done : (P : Pack) → Begun bytes work class words cells c k l r st memo fill P → all.AllDone class words cells bytes work′ class′ words′ cells′ c k l r (s .store) (s .memo) (s .fill) t P (unbuilt P)
+    done P S = B .1 r P (unbuilt P) (begins P S)
 
-    ended : (P : Pack) (S : Begun bytes work class words cells c k l r st memo fill P) → Ended bytes work′ class′ words′ cells′ c k l r st′ fill′ t P (done P S .built)
-    ended P S = let D = done P S in record { memo = memo′; standing = D .standing; all = D .all; summed = D .sums }
+    ended : (P : Pack) (S : Begun bytes work class words cells c k l r st memo fill P) → Ended bytes work′ class′ words′ cells′ c k l r (s .store) (s .fill) t P (done P S .built)
+    ended P S = let D = done P S in record { memo = s .memo; standing = D .standing; all = D .all; summed = D .sums }
 
     -- the goals may be tested
-    pub goes-testing : Beginning bytes work class words cells c k l r st memo fill → length words′ ≡ length words → length cells′ ≡ length cells → Testing bytes work′ class′ words′ cells′ c k l r st′ fill′ t
-    goes-testing K w s = record { pack = K .pack; built = done (K .pack) (K .begun) .built; ended = ended (K .pack) (K .begun); room = omega (arith, K .room, w, s, B .2 .long) }
+    pub goes-testing : Beginning bytes work class words cells c k l r st memo fill → length words′ ≡ length words → length cells′ ≡ length cells → TestingIn (lent bytes class′ words′ cells′ work′) s r t
+    goes-testing K w z =
+        subst (λ (x : Building). TestingIn (lent bytes class′ words′ cells′ work′) x r t) (sym (B .0))
+        (record { pack = K .pack; built = done (K .pack) (K .begun) .built; ended = ended (K .pack) (K .begun); room = omega (arith, K .room, w, z, B .3 .long) })
 
     -- what they come to
-    pub goes-ended : (a : Answer) → Ends bytes work′ class′ words′ cells′ c k l r st′ fill′ t a → Goes bytes work class words cells class′ words′ c k l r st memo fill a
-    goes-ended (answers.Done n m f) N = λ P S same.
+    by-answer : (a : Answer) → Ends bytes work′ class′ words′ cells′ c k l r (s .store) (s .fill) t a → Goes bytes work class words cells class′ words′ c k l r st memo fill a
+    by-answer (answers.Done n m f) N = λ P S same.
         let D = done P S in
         let G = N .2 P (D .built) (ended P S) in
         let W = D .standing in
@@ -63,13 +67,16 @@ module _ (bytes work class words cells : List ℕ) (c : Catalog) (k : Keying) (l
           built = D .built;
           roots = G .0;
           is = λ L e. run-done L P (D .built) (same L (e .class-long) ∙ D .is L e) (G .0) (G .1 L);
-          classes = rw (N .0) (class-words bytes work′ class′ words′ cells′ c k l r st′ memo′ fill′ P (D .built) W);
-          classes-fit = omega (arith, N .0, class-fits bytes work′ class′ words′ cells′ c k l r st′ memo′ fill′ P (D .built) W);
-          patterns = rw (N .1) (pattern-words bytes work′ class′ words′ cells′ c k l r st′ memo′ fill′ P (D .built) W);
-          patterns-fit = omega (arith, N .1, pattern-fits bytes work′ class′ words′ cells′ c k l r st′ memo′ fill′ P (D .built) W);
+          classes = rw (N .0) (class-words bytes work′ class′ words′ cells′ c k l r (s .store) (s .memo) (s .fill) P (D .built) W);
+          classes-fit = omega (arith, N .0, class-fits bytes work′ class′ words′ cells′ c k l r (s .store) (s .memo) (s .fill) P (D .built) W);
+          patterns = rw (N .1) (pattern-words bytes work′ class′ words′ cells′ c k l r (s .store) (s .memo) (s .fill) P (D .built) W);
+          patterns-fit = omega (arith, N .1, pattern-fits bytes work′ class′ words′ cells′ c k l r (s .store) (s .memo) (s .fill) P (D .built) W);
           counted = G .2;
         }
-    goes-ended (answers.Refused x) N = λ P S same L e. let D = done P S in run-untested L P (D .built) (same L (e .class-long) ∙ D .is L e) x (N P (D .built) (ended P S) L)
+    by-answer (answers.Refused x) N = λ P S same L e. let D = done P S in run-untested L P (D .built) (same L (e .class-long) ∙ D .is L e) x (N P (D .built) (ended P S) L)
+
+    pub goes-ended : (a : Answer) → EndsIn (lent bytes class′ words′ cells′ work′) s r t a → Goes bytes work class words cells class′ words′ c k l r st memo fill a
+    goes-ended a N = by-answer a (subst (λ (x : Building). EndsIn (lent bytes class′ words′ cells′ work′) x r t a) (B .0) N)
 
 -- ---- all made ready, then all classes
 module _ (bytes work class words cells : List ℕ) (c : Catalog) where

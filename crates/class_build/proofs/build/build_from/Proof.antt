@@ -8,10 +8,10 @@ make-classes-requires : tie.Need-make-classes-requires
 make-classes-requires c κs = begins-classes _ _ _ _ _ _ _ _ _ _ _ _ (c .before .before .before .before .before .before .before .before .before .pre)
 
 finish-requires : tie.Need-finish-requires
-finish-requires c κs = let m = c .before .before .before .before .before .before .before .before .before .before .before .before .before .before .before .make-classes in goes-testing _ _ _ _ _ _ _ _ _ _ _ _ (m .last .1 .0) (m .last .1 .1 .0) (m .last .1 .1 .1 .0) (m .last .1 .1 .1 .1 .0) _ _ _ _ (rw (c .before .before .before .before .before .store .given .1) at (m .ensures)) (c .before .before .before .before .before .before .before .before .before .before .before .before .before .before .before .before .before .before .before .before .before .before .before .before .before .pre) (m .kept .1 .1 .1 .0) (m .kept .1 .1 .1 .1 .0)
+finish-requires c κs = let m = c .before .before .before .before .before .before .before .before .before .before .before .before .before .before .before .make-classes in goes-testing _ _ _ _ _ _ _ _ _ _ _ _ (m .last .1 .0) (m .last .1 .1 .0) (m .last .1 .1 .1 .0) (m .last .1 .1 .1 .1 .0) _ _ (rw (c .before .before .before .before .before .at .given .1) at (m .ensures)) (c .before .before .before .before .before .before .before .before .before .before .before .before .before .before .before .before .before .before .before .before .before .before .before .before .before .pre) (m .kept .1 .1 .1 .0) (m .kept .1 .1 .1 .1 .0)
 
 returns : tie.Need-returns
-returns c = let m = c .before .before .before .before .before .before .before .before .before .before .before .before .before .before .before .before .before .before .make-classes in goes-ended _ _ _ _ _ _ _ _ _ _ _ _ (m .last .1 .0) (m .last .1 .1 .0) (m .last .1 .1 .1 .0) (m .last .1 .1 .1 .1 .0) _ _ _ _ (rw (c .before .before .before .before .before .before .before .before .store .given .1) at (m .ensures)) (c .before .before .finish .result) (c .before .before .finish .ensures)
+returns c = let m = c .before .before .before .before .before .before .before .before .before .before .before .before .before .before .before .before .before .before .make-classes in goes-ended _ _ _ _ _ _ _ _ _ _ _ _ (m .last .1 .0) (m .last .1 .1 .0) (m .last .1 .1 .1 .0) (m .last .1 .1 .1 .1 .0) _ _ (rw (c .before .before .before .before .before .before .before .before .at .given .1) at (m .ensures)) (c .before .before .finish .result) (c .before .before .finish .ensures)
 
 returns-2 : tie.Need-returns-2
 returns-2 c = let m = c .before .before .before .before .before .before .before .before .before .before .before .make-classes in goes-unbuilt _ _ _ _ _ _ _ _ _ _ _ _ (m .last .1 .0) (m .last .1 .1 .0) (m .last .1 .1 .1 .0) (m .last .1 .1 .1 .1 .0) _ (rw (c .before .x .given .1) at (m .ensures))

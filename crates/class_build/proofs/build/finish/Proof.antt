@@ -23,7 +23,7 @@ returns-2 : tie.Need-returns-2
 returns-2 c = λ P b E. (rw (c .before .i .given .1) at (c .before .before .before .before .before .test-goals .ensures)) .1 _ _ _ _ P b (E .standing) (E .all)
 
 returns-3 : tie.Need-returns-3
-returns-3 c = λ P b E. (rw (c .before .s .given .1) at (c .before .before .before .before .before .test-goals .ensures)) .1 _ _ _ _ P b (E .standing) (E .all)
+returns-3 c = λ P b E. (rw (c .before .step .given .1) at (c .before .before .before .before .before .test-goals .ensures)) .1 _ _ _ _ P b (E .standing) (E .all)
 
 pub finish-spec : {M : Type 1} → statement M
 finish-spec =
