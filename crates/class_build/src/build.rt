@@ -41,7 +41,17 @@ fn finish(
     ensures { λ a. ⌜ EndsIn (lent (now (pack .entry)) (now (class .entry)) (now (words .entry)) (now (cells .entry)) (now (work .entry))) s r t a ⌝ }
 {
     let tables = instance_tables(cells, s.layout, s.store);
-    match test_goals(pack, work, class, words, s.catalog, s.keying, s.layout, tables, s.store) {
+    match test_goals(
+        pack,
+        work,
+        class,
+        words,
+        s.catalog,
+        s.keying,
+        s.layout,
+        tables,
+        s.store,
+    ) {
         Tested::Met(seen, values) => {
             let f = figures_of(work, s.keying, r, s.layout.nodes, s.store, t);
             Answer::Done(s.fill, s.store.used, f)

@@ -10,7 +10,14 @@ ghost use lib.ListN.{length};
 ghost use Rattle.class_build.specs.Figures.{Figured};
 
 // The figures of these classes, whose sums are `t`, of a pack of so many ground nodes.
-pub fn figures_of(work: &[u32], k: Keying, r: Counts, nodes: usize, st: Store, t: Counted) -> Figures
+pub fn figures_of(
+    work: &[u32],
+    k: Keying,
+    r: Counts,
+    nodes: usize,
+    st: Store,
+    t: Counted,
+) -> Figures
     requires { ⌜ k .at + 2 * k .cap + r .classes ≤ length (now work) ⌝ }
     ensures { λ f. ⌜ Figured (now (work .entry)) k r nodes st t f ⌝ }
 {

@@ -111,9 +111,7 @@ pub fn solve_premises(
         end: s.layout.end,
     };
     match open_variables(pack, work, cells, s.catalog, place) {
-        Opened::On(g) => {
-            solve_from(pack, work, class, words, cells, s, g, env, u, instances)
-        }
+        Opened::On(g) => { solve_from(pack, work, class, words, cells, s, g, env, u, instances) }
         Opened::Short => Solved::Refused(Refusal::Short(Buffer::GRAPH)),
     }
 }
