@@ -2,16 +2,15 @@
 use mathlib.Core.Path.{_≡_, refl, sym, ap, _∙_, subst}
 use mathlib.Core.Bool.{Bool, true, false}
 use mathlib.Core.List.{List}
-use Prim.Native.Nat.{ℕ, _+_, _-_, _≤_, _<_}
+use Prim.Native.Nat.{ℕ, _+_, _<_}
 use native.Mathlib.Omega.{arith}
-use lib.ListN.{length, getD, take, drop}
+use lib.ListN.{length, getD}
 use Rattle.definition.specs.Pack.{Pack, ruleOf, stepOf}
 use Rattle.definition.specs.Certificate.{count}
 use Rattle.definition.specs.Keys.{noKeyed, predicateOf, isCut, keyed as keysOf}
 use Rattle.definition.specs.Classes.{Built, makeCut, makeClass}
 use Rattle.definition.specs.Figures.{classVars, flexVars}
 use Rattle.definition.specs.Run.{Run, outcome}
-use Rattle.definition.specs.declared.Refusal.{Refusal as Reason}
 use Rattle.base.specs.Outside.{Outside, outside-wider}
 use Rattle.store.specs.Stored.{nodes, written}
 use Rattle.memo.specs.declared.memo.Memo.{Memo}

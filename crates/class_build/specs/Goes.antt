@@ -5,7 +5,6 @@ use Prim.Native.Nat.{ℕ, _<_}
 use native.Mathlib.Omega.{arith}
 use lib.ListN.{length}
 use Rattle.definition.specs.Pack.{Pack}
-use Rattle.definition.specs.Classes.{Built}
 use Rattle.definition.specs.declared.Refusal.{Refusal}
 use Rattle.definition.specs.declared.Refusal.the-variants as refusals
 use Rattle.memo.specs.declared.memo.Memo.{Memo}

@@ -37,7 +37,6 @@ use Rattle.term_copy.specs.declared.copy.Copied.the-variants as answers
 use Rattle.term_copy.specs.declared.copy.Copied.{Copied}
 use Rattle.class_premises.specs.declared.layout.Layout.{Layout}
 use Rattle.class_premises.specs.declared.premise.Premise.{Premise}
-use Rattle.class_premises.specs.declared.premise.Fresh.{Fresh}
 use Rattle.class_premises.specs.declared.premise.Taken.{Taken}
 use Rattle.class_premises.specs.declared.premise.Taken.the-variants.{On, Refused}
 use Rattle.class_premises.specs.declared.building.Building.{Building}

@@ -16,7 +16,6 @@ use Rattle.store.specs.Stored.{nodes, written}
 use Rattle.memo.specs.declared.memo.Memo.{Memo}
 use Rattle.store.specs.declared.nodes.Store.{Store}
 use Rattle.pack_tables.specs.declared.catalog.Catalog.{Catalog}
-use Rattle.graph.specs.declared.graph.Graph.{Graph as Counts}
 use Rattle.class_keys.specs.declared.classes.Keying.{Keying}
 use Rattle.class_keys.specs.declared.classes.Counts.{Counts as KeyCounts}
 use Rattle.term_instantiate.specs.Count.{up-lent}

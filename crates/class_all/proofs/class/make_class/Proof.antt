@@ -1,5 +1,4 @@
 -- `make_class` meets its contract.
-use borrow.Author.Needs.{needs}
 use Rattle.class_all.specs.Class.{making-first, making-held, making-marks, making-step, making-cut, makes-cut, making-rule, makes-rule}
 use Rattle.class_all.proofs.class.make_class.Statement.{statement}
 use Rattle.class_all.proofs.class.make_class.Tie as tie

@@ -1,5 +1,4 @@
 -- `fix_premises` meets its contract.
-use borrow.Author.Needs.{needs}
 use Rattle.class_solve.specs.AllValues.{cleared-begun, gives-all}
 use Rattle.class_solve.proofs.values.fix_premises.Statement.{statement}
 use Rattle.class_solve.proofs.values.fix_premises.Tie as tie
