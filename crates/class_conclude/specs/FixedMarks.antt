@@ -2,7 +2,7 @@
 use mathlib.Core.Path.{_≡_, refl, sym, ap, _∙_, subst}
 use mathlib.Core.Bool.{true, false}
 use mathlib.Core.List.{List, [], _∷_, _++_}
-use Prim.Native.Nat.{ℕ, _+_, _*_, _≤_, _<_}
+use Prim.Native.Nat.{ℕ, _+_, _≤_, _<_}
 use native.Mathlib.Omega.{arith}
 use native.Mathlib.Decide.{ℕ-discrete}
 use borrow.Author.Tests.{eq-eqb, ne-eqb}
@@ -12,13 +12,14 @@ use lib.Seq.{getD-set-same, getD-set-other}
 use Rattle.definition.specs.Test.{is, see, any}
 use Rattle.definition.specs.Classes.{mark}
 use Rattle.base.specs.Part.{part, part-more}
+use Rattle.graph.specs.Places as places
 use Rattle.term_readback.specs.Words.{valuesAt, numbersAt, tableEnd, tableIn}
 use Rattle.term_readback.specs.Moved.{table-at}
 use Rattle.term_readback.specs.declared.table.Table.{Table}
 
 -- where the colours start
 abbrev pub coloursAt : List ℕ → ℕ
-coloursAt cells = 7 * length cells + 7
+coloursAt cells = places.coloursAt (length cells)
 
 -- the first n numbered variables
 abbrev pub numbersIn : List ℕ → List ℕ → Table → ℕ → List ℕ

@@ -3,6 +3,7 @@ use base::id::Node;
 use base::id::Pattern;
 use class_premises::layout::Layout;
 use graph::graph::Graph;
+use graph::places::copies_at;
 use pack_tables::catalog::Catalog;
 use store::nodes::Store;
 use term_lift::lift::Lifted;
@@ -56,7 +57,7 @@ fn read_entry(
     requires { ⌜ OneAsked (now pack) (now work) (now words) (now cells) c l st g numbered i ⌝ }
     ensures { λ r. ⌜ OneReads (now (pack .entry)) (now (work .entry)) (now (words .entry)) (now (work .exit)) (now (words .exit)) (now (cells .entry)) c l st g numbered i r ⌝ }
 {
-    let at = l.graph + (11 * cells.len() + 7);
+    let at = l.graph + copies_at(cells);
     let x = Node(work[at + i]);
     let lifted = Lifted {
         at: l.lifted,

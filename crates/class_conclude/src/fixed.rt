@@ -3,6 +3,9 @@ use base::id::Node;
 use base::id::Pattern;
 use buffer::zero::zero_words;
 use graph::graph::Graph;
+use graph::places::colours_at;
+use graph::places::numbers_at;
+use graph::places::values_at;
 use term_readback::table::Table;
 use term_readback::table::put_word;
 use term_readback::table::word_at;
@@ -15,8 +18,8 @@ fn mark_numbered(work: &mut [u32], cells: &[u32], t: Table, numbered: usize)
     requires { ⌜ MarkAsked (now work) (now cells) t numbered ⌝ }
     ensures { λ _. ⌜ Marks (now (work .entry)) (now (work .exit)) (now (cells .entry)) t numbered ⌝ }
 {
-    let colours = 7 * cells.len() + 7;
-    let numbers = 10 * cells.len() + 7;
+    let colours = colours_at(cells);
+    let numbers = numbers_at(cells);
     let mut i: usize = 0;
     while i < numbered {
         let x = word_at(work, t, numbers + i) as usize;
@@ -32,7 +35,6 @@ fn fixes(work: &[u32], cells: &[u32], t: Table, g: Graph, x: Node) -> usize
 {
     let a = t.at;
     let e = t.end;
-    let n = cells.len();
     let i = x.0 as usize;
     if !g.is_root(cells, &work[a..e], x) {
         return 0;
@@ -43,10 +45,10 @@ fn fixes(work: &[u32], cells: &[u32], t: Table, g: Graph, x: Node) -> usize
     if g.is_flexible(cells, &work[a..e], x) {
         return 0;
     }
-    if word_at(work, t, 8 * n + 7 + i) == 0 {
+    if word_at(work, t, values_at(cells) + i) == 0 {
         return 0;
     }
-    if word_at(work, t, 7 * n + 7 + i) != 0 {
+    if word_at(work, t, colours_at(cells) + i) != 0 {
         return 0;
     }
     1
@@ -71,7 +73,7 @@ pub fn count_fixed(work: &mut [u32], cells: &[u32], t: Table, g: Graph, numbered
     requires { ⌜ NumbersIn (now work) (now cells) t g numbered ⌝ }
     ensures { λ r. ⌜ CountsFixed (now (work .entry)) (now (work .exit)) (now (cells .entry)) t g numbered r ⌝ }
 {
-    let from = t.at + (7 * cells.len() + 7);
+    let from = t.at + colours_at(cells);
     let end = from + g.nodes;
     zero_words(&mut work[from..end]);
     mark_numbered(work, cells, t, numbered);

@@ -6,6 +6,7 @@ use base::id::Pattern;
 use buffer::zero::zero_words;
 use class_premises::layout::Layout;
 use graph::graph::Graph;
+use graph::places::values_at;
 use pack_tables::catalog::Catalog;
 use store::nodes::Store;
 use term_lift::lift::Lifted;
@@ -39,7 +40,7 @@ fn prepare(work: &mut [u32], cells: &[u32], l: Layout, before: usize, g: Graph)
     requires { ⌜ (l .graph + tableEnd (now cells) ≤ l .end) × (l .end ≤ length (now work)) × (before ≤ g .nodes) × (g .nodes ≤ length (now cells)) ⌝ }
     ensures { λ _. ⌜ Prepares (now (work .entry)) (now (work .exit)) (now (cells .entry)) l before g ⌝ }
 {
-    let values = l.graph + (8 * cells.len() + 7);
+    let values = l.graph + values_at(cells);
     let from = values + before;
     let end = values + g.nodes;
     zero_words(&mut work[from..end]);

@@ -15,6 +15,7 @@ use Rattle.definition.specs.Graph.{Vertex, Graph, applied, vertex, cells}
 use Rattle.base.specs.Part.{part, part-same, length-part}
 use Rattle.theory.specs.Unification.Like.{Like}
 use Rattle.graph.specs.declared.graph.Graph.{Graph as Counts}
+use Rattle.graph.specs.Places.{pairsAt}
 
 -- a node's words in front
 abbrev pub startIn : List ℕ → ℕ → ℕ
@@ -82,7 +83,7 @@ graph-at words table (suc n) i l = elim (ℕ-discrete i n) [
 
 -- there are words for as many nodes as the cells can hold, and for one more, for where the next one starts; behind them is room for others
 abbrev pub rowsEnd : List ℕ → ℕ
-rowsEnd words = 5 * length words + 5
+rowsEnd words = pairsAt (length words)
 
 -- the nodes stand one behind the other in the cells
 pub record Laid (words table : List ℕ) (s : Counts) : Type 0 where

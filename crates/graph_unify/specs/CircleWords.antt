@@ -8,6 +8,7 @@ use lib.ListN.{length, getD, set, length-set}
 use Rattle.definition.specs.Graph.{Graph, vertex, isVar}
 use Rattle.base.specs.Part.{part, part-at, length-part, part-same, part-set, part-set-before, part-set-behind}
 use Rattle.graph.specs.declared.graph.Graph.{Graph as Counts}
+use Rattle.graph.specs.Places as places
 use Rattle.graph.specs.Cells.{rowsEnd, Laid, Shows, SameRows, rows-set, rows-then, laid-rows, shows-rows, Unchanged, unchanged-then, unchanged-later, unchanged-set}
 use Rattle.graph.specs.Links.{Found}
 use Rattle.graph.specs.Nodes.{ArgumentOf}
@@ -19,7 +20,7 @@ use Rattle.graph_unify.specs.Circles.{Enters, enters-variable, enters-ap
 
 -- where the colours start, and end
 abbrev pub coloursAt : List ℕ → ℕ
-coloursAt words = 7 * length words + 7
+coloursAt words = places.coloursAt (length words)
 
 abbrev pub coloursEnd : List ℕ → ℕ
 coloursEnd words = coloursAt words + length words

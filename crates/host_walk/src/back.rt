@@ -3,6 +3,7 @@ use crate::answer::Walk;
 use base::id::Node;
 use buffer::zero::zero_words;
 use graph::graph::Graph;
+use graph::places::values_at;
 use pack_tables::catalog::Catalog;
 use store::nodes::Store;
 use term_lift::lift::Lifted;
@@ -21,7 +22,7 @@ fn no_values(work: &mut [u32], cells: &[u32], t: Table, g: Graph)
     requires { ⌜ (t .at + tableEnd (now cells) ≤ t .end) × (t .end ≤ length (now work)) × (g .nodes ≤ length (now cells)) ⌝ }
     ensures { λ _. ⌜ Blank (now (work .entry)) (now (work .exit)) (now (cells .entry)) t g ⌝ }
 {
-    let from = t.at + 8 * cells.len() + 7;
+    let from = t.at + values_at(cells);
     let end = from + g.nodes;
     zero_words(&mut work[from..end]);
 }

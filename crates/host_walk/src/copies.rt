@@ -15,6 +15,7 @@ use dock_call::answer::outcome_answer;
 use dock_call::lent::Lent;
 use dock_call::opening::open_pack;
 use graph::graph::Graph;
+use graph::places::copies_at;
 use memo::part::begin;
 use pack_reader::read::tables;
 use pack_tables::catalog::Catalog;
@@ -95,7 +96,7 @@ fn copying(l: Lifted, words: &[u32], cells: &[u32], flex: &[u32]) -> Copying
     let walk = copied + 2 * (words.len() / 2);
     let variables = walk + 2 * (words.len() / 2);
     let graph = variables + flex.len();
-    let end = graph + (11 * cells.len() + 7);
+    let end = graph + copies_at(cells);
     Copying {
         index: index,
         copied: copied,

@@ -4,6 +4,7 @@ use base::id::Pattern;
 use base::limit::Limit;
 use graph::graph::Graph;
 use graph::graph::Pushed;
+use graph::places::pairs_at;
 use memo::memo::Known;
 use memo::memo::Memo;
 ghost use mathlib.Core.Path.{_≡_};
@@ -97,7 +98,7 @@ fn copy_variable(
 {
     let mark = mark_of(flex, k);
     let from = l.graph;
-    let to = from + (5 * cells.len() + 5);
+    let to = from + pairs_at(cells);
     g.var(cells, &mut work[from..to], sort, mark, 0)
 }
 
@@ -117,7 +118,7 @@ fn copy_application(
     gather(work, l, memo, key, &mut args);
     let n = key.len() - 1;
     let from = l.graph;
-    let to = from + (5 * cells.len() + 5);
+    let to = from + pairs_at(cells);
     g.push(cells, &mut work[from..to], key[0], &args[0..n])
 }
 

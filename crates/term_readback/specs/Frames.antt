@@ -185,10 +185,10 @@ module _ (cells work : List ℕ) (t : Table) (g : Counts) (x : ℕ) (A : Asking 
 
 -- ---- the patterns' words cleared
 module _ (work cells : List ℕ) (t : Table) (g : Counts) (room : t .at + tableEnd cells ≤ t .end) (fits : t .end ≤ length work) (few : g .nodes ≤ length cells) (zs : List ℕ)
-    (z : zs ≡ replicate (length (take (t .at + 9 * length cells + 7 + g .nodes - (t .at + 9 * length cells + 7)) (drop (t .at + 9 * length cells + 7) work))) 0) where
+    (z : zs ≡ replicate (length (take (t .at + patternsAt cells + g .nodes - (t .at + patternsAt cells)) (drop (t .at + patternsAt cells) work))) 0) where
   -- where they start
   abbrev from : ℕ
-  from = t .at + 9 * length cells + 7
+  from = t .at + patternsAt cells
 
   -- where they end
   abbrev end : ℕ

@@ -3,7 +3,7 @@ use mathlib.Core.Path.{_≡_}
 use mathlib.Core.Bool.{Bool, true, false}
 use mathlib.Core.List.{List}
 use mathlib.Core.Option.{some}
-use Prim.Native.Nat.{ℕ, _+_, _*_, _-_, _≤_, _<_}
+use Prim.Native.Nat.{ℕ, _+_, _-_, _≤_, _<_}
 use lib.ListN.{length, getD, take, drop}
 use Rattle.definition.specs.Pack.{Pack}
 use Rattle.definition.specs.Verdict.{Bound, valueOf}
@@ -23,24 +23,25 @@ use Rattle.pack_read.specs.Held.{Proper}
 use Rattle.term_lift.specs.Lifts.{Lifts}
 use Rattle.term_lift.specs.declared.lift.Lifted.{Lifted}
 use Rattle.graph.specs.declared.graph.Graph.{Graph as Counts}
+use Rattle.graph.specs.Places as places
 use Rattle.graph.specs.Cells.{Shows}
 use Rattle.term_readback.specs.declared.table.Table.{Table}
 
 -- where the values start
 abbrev pub valuesAt : List ℕ → ℕ
-valuesAt cells = 8 * length cells + 7
+valuesAt cells = places.valuesAt (length cells)
 
 -- where the patterns start
 abbrev pub patternsAt : List ℕ → ℕ
-patternsAt cells = 9 * length cells + 7
+patternsAt cells = places.patternsAt (length cells)
 
 -- where the numbered variables start
 abbrev pub numbersAt : List ℕ → ℕ
-numbersAt cells = 10 * length cells + 7
+numbersAt cells = places.numbersAt (length cells)
 
 -- where they end
 abbrev pub tableEnd : List ℕ → ℕ
-tableEnd cells = 11 * length cells + 7
+tableEnd cells = places.copiesAt (length cells)
 
 -- the graph's table, as it is lent
 abbrev pub tableIn : Table → List ℕ → List ℕ

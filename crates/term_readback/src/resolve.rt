@@ -11,6 +11,8 @@ use base::id::Node;
 use base::id::Pattern;
 use buffer::zero::zero_words;
 use graph::graph::Graph;
+use graph::places::pairs_at;
+use graph::places::patterns_at;
 use store::nodes::Store;
 ghost use mathlib.Core.Path.{_≡_};
 ghost use Prim.Native.Nat.{_+_, _<_, _≤_};
@@ -33,7 +35,7 @@ pub fn clear(work: &mut [u32], cells: &[u32], t: Table, g: Graph)
     requires { ⌜ (t .at + tableEnd (now cells) ≤ t .end) × (t .end ≤ length (now work)) × (g .nodes ≤ length (now cells)) ⌝ }
     ensures { λ _. ⌜ Clears (now (work .entry)) (now (work .exit)) (now (cells .entry)) t g ⌝ }
 {
-    let from = t.at + 9 * cells.len() + 7;
+    let from = t.at + patterns_at(cells);
     let end = from + g.nodes;
     zero_words(&mut work[from..end]);
 }
@@ -46,7 +48,7 @@ fn passes(work: &[u32], cells: &[u32], t: Table, x: Node, taken: u32) -> bool
     if taken != 0 {
         return false;
     }
-    0 < word_at(work, t, 9 * cells.len() + 7 + x.0 as usize)
+    0 < word_at(work, t, patterns_at(cells) + x.0 as usize)
 }
 
 // One argument more of `x` is taken by the frame above `top` others, and its root gets a frame above it.
@@ -55,7 +57,7 @@ fn enter(work: &mut [u32], cells: &[u32], t: Table, g: Graph, top: usize, x: Nod
     ensures { λ _. ⌜ Enters (now (cells .entry)) (now (work .entry)) (now (work .exit)) t g top (x .0) taken ⌝ }
 {
     let r = argument_root(work, cells, t, g, x, taken as usize);
-    let at = 5 * cells.len() + 5 + 2 * top;
+    let at = pairs_at(cells) + 2 * top;
     put_word(work, t, at + 1, taken + 1);
     put_word(work, t, at + 2, r.0);
     put_word(work, t, at + 3, 0);
@@ -69,7 +71,7 @@ fn begin(work: &mut [u32], cells: &[u32], t: Table, g: Graph, x: Node) -> Node
     let a = t.at;
     let e = t.end;
     let r = g.find(cells, &mut work[a..e], x);
-    let at = 5 * cells.len() + 5;
+    let at = pairs_at(cells);
     put_word(work, t, at, r.0);
     put_word(work, t, at + 1, 0);
     r
@@ -90,7 +92,7 @@ fn advance(
     requires { ⌜ TurningAt (now pack) (now work) (now words) (now cells) s st numbered top ⌝ }
     ensures { λ r. ⌜ AdvancesAt (now (pack .entry)) (now (work .entry)) (now (words .entry)) (now (work .exit)) (now (words .exit)) (now (cells .entry)) s st numbered top r ⌝ }
 {
-    let at = 5 * cells.len() + 5 + 2 * top;
+    let at = pairs_at(cells) + 2 * top;
     let x = Node(word_at(work, s.table, at));
     let taken = word_at(work, s.table, at + 1);
     if passes(work, cells, s.table, x, taken) {
@@ -136,6 +138,6 @@ pub fn resolve(
             }
         }
     }
-    let word = word_at(work, s.table, 9 * cells.len() + 7 + r.0 as usize);
+    let word = word_at(work, s.table, patterns_at(cells) + r.0 as usize);
     Resolved::Read(Pattern(word - 1), grown, n)
 }

@@ -12,6 +12,9 @@ use base::id::Node;
 use base::id::Pattern;
 use base::limit::Limit;
 use graph::graph::Graph;
+use graph::places::numbers_at;
+use graph::places::patterns_at;
+use graph::places::values_at;
 use pack_tables::catalog::Catalog;
 use store::nodes::Interned;
 use store::nodes::Store;
@@ -50,7 +53,7 @@ fn read_number(
     key[2] = sort;
     match intern_key(work, words, l, st, &key) {
         Interned::Id(p, more) => {
-            put_word(work, t, 10 * cells.len() + 7 + numbered, x.0);
+            put_word(work, t, numbers_at(cells) + numbered, x.0);
             Resolved::Read(p, more, numbered + 1)
         }
         Interned::Short => Resolved::Short,
@@ -73,7 +76,7 @@ fn read_value(
     requires { ⌜ Valuing (now pack) (now work) (now words) (now cells) c l t st numbered (x .0) ⌝ }
     ensures { λ r. ⌜ Values (now (pack .entry)) (now (work .entry)) (now (words .entry)) (now (work .exit)) (now (words .exit)) (now (cells .entry)) c l t st numbered (x .0) r ⌝ }
 {
-    let value = said(word_at(work, t, 8 * cells.len() + 7 + x.0 as usize));
+    let value = said(word_at(work, t, values_at(cells) + x.0 as usize));
     match lift(pack, work, words, c, l, st, Ground(value)) {
         Interned::Id(p, more) => Resolved::Read(p, more, numbered),
         Interned::Short => Resolved::Short,
@@ -192,7 +195,7 @@ pub fn read_root(
 {
     match read_either(pack, work, words, cells, s, st, numbered, x) {
         Resolved::Read(p, more, n) => {
-            put_word(work, s.table, 9 * cells.len() + 7 + x.0 as usize, p.0 + 1);
+            put_word(work, s.table, patterns_at(cells) + x.0 as usize, p.0 + 1);
             Resolved::Read(p, more, n)
         }
         Resolved::Short => Resolved::Short,

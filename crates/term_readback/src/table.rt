@@ -2,6 +2,7 @@
 use base::id::Node;
 use base::id::Pattern;
 use graph::graph::Graph;
+use graph::places::patterns_at;
 use pack_tables::catalog::Catalog;
 use store::nodes::Interned;
 use store::nodes::Store;
@@ -126,7 +127,7 @@ pub fn key_of(
 {
     let a = t.at;
     let e = t.end;
-    let patterns = 9 * cells.len() + 7;
+    let patterns = patterns_at(cells);
     let k = g.arity(cells, &work[a..e], x);
     key[0] = g.head(cells, &work[a..e], x);
     let mut i: usize = 0;

@@ -42,29 +42,29 @@ word-some (some n) w e d = let q : n ≡ w - 1 = omega (arith, e) in ap some q
 
 module _ (words work : List ℕ) (l : Valued) (F : Placed words work l) (x : ℕ) (h : x < length words) where
   -- where it stands
-  word-at : l .at + 8 * length words + 7 + x ≡ l .at + (valuesAt words + x)
+  word-at : l .at + valuesAt words + x ≡ l .at + (valuesAt words + x)
   word-at = omega arith
 
   -- the word
-  word-is : getD (tableIn l work) (valuesAt words + x) 0 ≡ getD work (l .at + 8 * length words + 7 + x) 0
+  word-is : getD (tableIn l work) (valuesAt words + x) 0 ≡ getD work (l .at + valuesAt words + x) 0
   word-is = table-at l work (valuesAt words + x) (omega (arith, F .room)) ∙ ap (λ (i : ℕ). getD work i 0) (sym word-at)
 
   -- it tells that there is none
-  pub value-none : getD work (l .at + 8 * length words + 7 + x) 0 ≡ 0 → ValueIs words (tableIn l work) x Nothing
+  pub value-none : getD work (l .at + valuesAt words + x) 0 ≡ 0 → ValueIs words (tableIn l work) x Nothing
   value-none e s g vs S m = word-none (valueOf x vs) (sym (S .values x m) ∙ word-is ∙ e)
 
   -- it tells which
-  pub value-some : (getD work (l .at + 8 * length words + 7 + x) 0 ≡ 0 → ⊥) → (s : Counts) (g : Graph) (vs : List Bound) → Stands words (tableIn l work) s g vs → x < s .nodes → valueOf x vs ≡ some (getD work (l .at + 8 * length words + 7 + x) 0 - 1)
-  value-some d s g vs S m = word-some (valueOf x vs) (getD work (l .at + 8 * length words + 7 + x) 0) (sym (S .values x m) ∙ word-is) d
+  pub value-some : (getD work (l .at + valuesAt words + x) 0 ≡ 0 → ⊥) → (s : Counts) (g : Graph) (vs : List Bound) → Stands words (tableIn l work) s g vs → x < s .nodes → valueOf x vs ≡ some (getD work (l .at + valuesAt words + x) 0 - 1)
+  value-some d s g vs S m = word-some (valueOf x vs) (getD work (l .at + valuesAt words + x) 0) (sym (S .values x m) ∙ word-is) d
 
 -- ---- a value is put down
 abbrev pub PutsValue : List ℕ → List ℕ → List ℕ → Valued → ℕ → ℕ → Type 0
 PutsValue words work work′ l x n = (tableIn l work′ ≡ set (tableIn l work) (valuesAt words + x) (n + 1)) × Framed words l work work′
 
 -- a store does that
-pub puts-value : (words work : List ℕ) (l : Valued) → Placed words work l → (x n : ℕ) → x < length words → PutsValue words work (set work (l .at + 8 * length words + 7 + x) (n + 1)) l x n
+pub puts-value : (words work : List ℕ) (l : Valued) → Placed words work l → (x n : ℕ) → x < length words → PutsValue words work (set work (l .at + valuesAt words + x) (n + 1)) l x n
 puts-value words work l F x n h =
-    let e : l .at + (valuesAt words + x) ≡ l .at + 8 * length words + 7 + x = omega arith in
+    let e : l .at + (valuesAt words + x) ≡ l .at + valuesAt words + x = omega arith in
     rw (← e) (table-set l work (valuesAt words + x) (n + 1) (omega (arith, F .room)), framed-set words l work (valuesAt words + x) (n + 1) (omega arith))
 
 -- ---- a pair is put down
@@ -73,11 +73,11 @@ PutsPair words work work′ l top x n = (tableIn l work′ ≡ set (set (tableIn
 
 -- two stores do that
 pub puts-pair : (words work : List ℕ) (l : Valued) → Placed words work l → (top x n : ℕ) → top ≤ length words
-    → PutsPair words work (set (set work (l .at + 5 * length words + 5 + 2 * top) x) (l .at + 5 * length words + 5 + 2 * top + 1) n) l top x n
+    → PutsPair words work (set (set work (l .at + rowsEnd words + 2 * top) x) (l .at + rowsEnd words + 2 * top + 1) n) l top x n
 puts-pair words work l F top x n h =
     let i : ℕ = rowsEnd words + 2 * top in
-    let e : l .at + i ≡ l .at + 5 * length words + 5 + 2 * top = omega arith in
-    let f : l .at + (i + 1) ≡ l .at + 5 * length words + 5 + 2 * top + 1 = omega arith in
+    let e : l .at + i ≡ l .at + rowsEnd words + 2 * top = omega arith in
+    let f : l .at + (i + 1) ≡ l .at + rowsEnd words + 2 * top + 1 = omega arith in
     let first : List ℕ = set work (l .at + i) x in
     rw (← f, ← e) (
       table-set l first (i + 1) n (omega (arith, F .room)) ∙ ap (λ (t : List ℕ). set t (i + 1) n) (table-set l work i x (omega (arith, F .room))),
@@ -102,11 +102,11 @@ module _ (words work : List ℕ) (l : Valued) (F : Placed words work l) (s : Cou
   clear-few = omega (arith, nodes-few words (tableIn l work) s L, L .fits)
 
   -- zeros do that
-  pub clears : (zs : List ℕ) → zs ≡ replicate (length (take (l .at + 8 * length words + 7 + s .nodes - (l .at + 8 * length words + 7)) (drop (l .at + 8 * length words + 7) work))) 0
-      → Clears words work (put (l .at + 8 * length words + 7) (l .at + 8 * length words + 7 + s .nodes - (l .at + 8 * length words + 7)) zs work) l s
+  pub clears : (zs : List ℕ) → zs ≡ replicate (length (take (l .at + valuesAt words + s .nodes - (l .at + valuesAt words)) (drop (l .at + valuesAt words) work))) 0
+      → Clears words work (put (l .at + valuesAt words) (l .at + valuesAt words + s .nodes - (l .at + valuesAt words)) zs work) l s
   clears zs z =
-      let a : ℕ = l .at + 8 * length words + 7 in
-      let e : ℕ = l .at + 8 * length words + 7 + s .nodes in
+      let a : ℕ = l .at + valuesAt words in
+      let e : ℕ = l .at + valuesAt words + s .nodes in
       let room : e ≤ length work = omega (arith, F .room, F .fits, clear-few) in
       let next : List ℕ = put a (e - a) zs work in
       let long = zeros-long a e (s .nodes) work zs refl room z in

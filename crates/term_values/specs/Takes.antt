@@ -57,15 +57,15 @@ module _ (bytes work words : List ℕ) (c : Catalog) (l : Valued) (s : Counts) (
   ready-low = omega (arith, Q .left .most, length-pairsIn (rowsEnd words) (tableIn l work) (suc top))
 
   -- the words that it is read from
-  pub ready-left : getD work (l .at + 5 * length words + 5 + 2 * top) 0 ≡ leftWord words (tableIn l work) top
+  pub ready-left : getD work (l .at + rowsEnd words + 2 * top) 0 ≡ leftWord words (tableIn l work) top
   ready-left =
-      let e : l .at + 5 * length words + 5 + 2 * top ≡ l .at + (rowsEnd words + 2 * top) = omega arith in
+      let e : l .at + rowsEnd words + 2 * top ≡ l .at + (rowsEnd words + 2 * top) = omega arith in
       ap (λ (i : ℕ). getD work i 0) e ∙ sym (table-at l work (rowsEnd words + 2 * top) (omega (arith, Q .values .placed .room, ready-low)))
 
   -- the other word
-  pub ready-right : getD work (l .at + 5 * length words + 5 + 2 * top + 1) 0 ≡ rightWord words (tableIn l work) top
+  pub ready-right : getD work (l .at + rowsEnd words + 2 * top + 1) 0 ≡ rightWord words (tableIn l work) top
   ready-right =
-      let e : l .at + 5 * length words + 5 + 2 * top + 1 ≡ l .at + (rowsEnd words + 2 * top + 1) = omega arith in
+      let e : l .at + rowsEnd words + 2 * top + 1 ≡ l .at + (rowsEnd words + 2 * top + 1) = omega arith in
       ap (λ (i : ℕ). getD work i 0) e ∙ sym (table-at l work (rowsEnd words + 2 * top + 1) (omega (arith, Q .values .placed .room, ready-low)))
 
   -- a node and a ground node

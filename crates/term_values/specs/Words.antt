@@ -2,7 +2,7 @@
 use mathlib.Core.Path.{_≡_, sym, ap, _∙_}
 use mathlib.Core.Bool.{false}
 use mathlib.Core.List.{List, [], _∷_}
-use Prim.Native.Nat.{ℕ, _+_, _*_, _-_, _≤_, _<_}
+use Prim.Native.Nat.{ℕ, _+_, _-_, _≤_, _<_}
 use native.Mathlib.Omega.{arith}
 use native.Mathlib.Numerals.{add-one}
 use native.Mathlib.Decide.{ℕ-discrete}
@@ -22,16 +22,17 @@ use Rattle.pack_read.specs.Held.{Held, OfHeld, held-on}
 use Rattle.theory.specs.Copies.Copying.{valueOf-new, valueOf-old}
 use Rattle.theory.specs.Unification.Inner.{Inner}
 use Rattle.graph.specs.declared.graph.Graph.{Graph as Counts}
+use Rattle.graph.specs.Places as places
 use Rattle.graph.specs.Cells.{rowsEnd, nodes-few, Shows, SameRows, rows-set, shows-rows, Unchanged}
 use Rattle.graph.specs.Links.{Found}
 use Rattle.term_values.specs.declared.values.Valued.{Valued}
 
 -- where the values start, and end
 abbrev pub valuesAt : List ℕ → ℕ
-valuesAt words = 8 * length words + 7
+valuesAt words = places.valuesAt (length words)
 
 abbrev pub valuesEnd : List ℕ → ℕ
-valuesEnd words = 9 * length words + 7
+valuesEnd words = places.patternsAt (length words)
 
 -- the graph's table, as it is lent
 abbrev pub tableIn : Valued → List ℕ → List ℕ

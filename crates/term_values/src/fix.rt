@@ -9,6 +9,7 @@ use base::id::Ground;
 use base::id::Node;
 use base::id::Pattern;
 use graph::graph::Graph;
+use graph::places::pairs_at;
 use pack_read::node::node_argument;
 use pack_read::node::node_arity;
 use pack_read::node::node_head;
@@ -111,7 +112,7 @@ fn take_value(
     requires { ⌜ Ready (now pack) (now work) (now cells) c l g top ⌝ }
     ensures { λ t. ⌜ Takes (now (pack .entry)) (now (work .entry)) (now (work .exit)) (now (cells .entry)) c l g top t ⌝ }
 {
-    let at = l.at + 5 * cells.len() + 5 + 2 * top;
+    let at = l.at + pairs_at(cells) + 2 * top;
     let x = Node(work[at]);
     let n = Ground(work[at + 1]);
     let r = root(work, cells, l, g, x);

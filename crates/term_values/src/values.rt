@@ -3,6 +3,8 @@ use base::id::Ground;
 use base::id::Node;
 use buffer::zero::zero_words;
 use graph::graph::Graph;
+use graph::places::pairs_at;
+use graph::places::values_at;
 ghost use Prim.Native.Nat.{_<_, _≤_};
 ghost use lib.ListN.{length};
 ghost use Rattle.graph.specs.Links.{Holds};
@@ -27,7 +29,7 @@ pub fn value(work: &[u32], cells: &[u32], l: Valued, x: Node) -> Known
     requires { ⌜ Placed (now cells) (now work) l × (x .0 < length (now cells)) ⌝ }
     ensures { λ r. ⌜ ValueIs (now (cells .entry)) (tableIn l (now (work .entry))) (x .0) r ⌝ }
 {
-    let at = l.at + 8 * cells.len() + 7 + x.0 as usize;
+    let at = l.at + values_at(cells) + x.0 as usize;
     let word = work[at];
     if word == 0 {
         return Known::Nothing;
@@ -40,7 +42,7 @@ pub fn put_value(work: &mut [u32], cells: &[u32], l: Valued, x: Node, n: Ground)
     requires { ⌜ Placed (now cells) (now work) l × (x .0 < length (now cells)) × (n .0 < 4294967295) ⌝ }
     ensures { λ _. ⌜ PutsValue (now (cells .entry)) (now (work .entry)) (now (work .exit)) l (x .0) (n .0) ⌝ }
 {
-    let at = l.at + 8 * cells.len() + 7 + x.0 as usize;
+    let at = l.at + values_at(cells) + x.0 as usize;
     work[at] = n.0 + 1;
 }
 
@@ -49,7 +51,7 @@ pub fn put_pair(work: &mut [u32], cells: &[u32], l: Valued, top: usize, x: Node,
     requires { ⌜ Placed (now cells) (now work) l × (top ≤ length (now cells)) ⌝ }
     ensures { λ _. ⌜ PutsPair (now (cells .entry)) (now (work .entry)) (now (work .exit)) l top (x .0) (n .0) ⌝ }
 {
-    let at = l.at + 5 * cells.len() + 5 + 2 * top;
+    let at = l.at + pairs_at(cells) + 2 * top;
     work[at] = x.0;
     work[at + 1] = n.0;
 }
@@ -69,7 +71,7 @@ pub fn clear(work: &mut [u32], cells: &[u32], l: Valued, g: Graph)
     requires { ⌜ Placed (now cells) (now work) l × Holds (now cells) (tableIn l (now work)) g ⌝ }
     ensures { λ _. ⌜ Clears (now (cells .entry)) (now (work .entry)) (now (work .exit)) l g ⌝ }
 {
-    let a = l.at + 8 * cells.len() + 7;
+    let a = l.at + values_at(cells);
     let e = a + g.nodes;
     zero_words(&mut work[a..e]);
 }

@@ -16,22 +16,22 @@ loop-holds : tie.Need-loop-holds Inv-loop μ-loop
 loop-holds c = (omega arith, marks-none _ _ _)
 
 add-word-at : tie.Need-add-word-at Inv-loop μ-loop
-add-word-at c = let m = marks-there _ _ _ _ _ _ (c .before .before .before .before .before .pre) (c .before .before .loop .inv .1) (c .before .loop-test .taken) in omega (arith, m .0, m .1)
+add-word-at c = let m = marks-there _ _ _ _ _ _ (c .before .before .before .before .before .before .before .pre) (c .before .before .loop .inv .1) (c .before .loop-test .taken) in omega (arith, m .0, m .1, c .before .before .before .numbers-at .ensures)
 
 word-at-requires : tie.Need-word-at-requires Inv-loop μ-loop
-word-at-requires c κs = marks-there _ _ _ _ _ _ (c .before .before .before .before .before .pre) (c .before .before .loop .inv .1) (c .before .loop-test .taken)
+word-at-requires c κs = rw (c .before .before .before .numbers-at .ensures) (marks-there _ _ _ _ _ _ (c .before .before .before .before .before .before .before .pre) (c .before .before .loop .inv .1) (c .before .loop-test .taken))
 
 add-put-word : tie.Need-add-put-word Inv-loop μ-loop
-add-put-word c = let m = next-there _ _ _ _ _ _ (c .before .before .before .before .before .before .before .pre) (c .before .before .before .before .loop .inv .1) (c .before .before .before .loop-test .taken) _ (c .before .word-at .ensures) in omega (arith, m .0, m .1)
+add-put-word c = let m = next-there _ _ _ _ _ _ (c .before .before .before .before .before .before .before .before .before .pre) (c .before .before .before .before .loop .inv .1) (c .before .before .before .loop-test .taken) _ (rw (c .before .before .before .before .before .numbers-at .ensures) at (c .before .word-at .ensures)) in omega (arith, m .0, m .1, c .before .before .before .before .before .before .colours-at .ensures)
 
 put-word-requires : tie.Need-put-word-requires Inv-loop μ-loop
-put-word-requires c κs = next-there _ _ _ _ _ _ (c .before .before .before .before .before .before .before .pre) (c .before .before .before .before .loop .inv .1) (c .before .before .before .loop-test .taken) _ (c .before .word-at .ensures)
+put-word-requires c κs = rw (c .before .before .before .before .before .before .colours-at .ensures) (next-there _ _ _ _ _ _ (c .before .before .before .before .before .before .before .before .before .pre) (c .before .before .before .before .loop .inv .1) (c .before .before .before .loop-test .taken) _ (rw (c .before .before .before .before .before .numbers-at .ensures) at (c .before .word-at .ensures)))
 
 loop-less : tie.Need-loop-less Inv-loop μ-loop
 loop-less c = omega (arith, c .before .before .before .before .before .before .loop-test .taken)
 
 loop-again : tie.Need-loop-again Inv-loop μ-loop
-loop-again c = (omega (arith, c .before .before .before .before .before .before .loop-test .taken), rw (c .before .before .put-word .ensures) (marks-on _ _ _ _ _ _ (c .before .before .before .before .before .before .before .before .before .before .pre) (c .before .before .before .before .before .before .before .loop .inv .1) (c .before .before .before .before .before .before .loop-test .taken) _ (c .before .before .before .before .word-at .ensures)))
+loop-again c = (omega (arith, c .before .before .before .before .before .before .loop-test .taken), rw (rw (c .before .before .before .before .before .before .before .before .before .colours-at .ensures) at (c .before .before .put-word .ensures)) (marks-on _ _ _ _ _ _ (c .before .before .before .before .before .before .before .before .before .before .before .before .pre) (c .before .before .before .before .before .before .before .loop .inv .1) (c .before .before .before .before .before .before .loop-test .taken) _ (rw (c .before .before .before .before .before .before .before .before .numbers-at .ensures) at (c .before .before .before .before .word-at .ensures))))
 
 same-length : tie.Need-same-length Inv-loop μ-loop
 same-length c = c .before .loop .inv .1 .long
@@ -45,10 +45,8 @@ mark-numbered-spec =
     (tie.spec
     Inv-loop
     μ-loop
-    (λ c. search needs)
-    (λ c. search needs)
-    (λ c. search needs)
-    (λ c. search needs)
+    (λ c κs. search needs)
+    (λ c κs. search needs)
     loop-holds
     add-word-at
     word-at-requires

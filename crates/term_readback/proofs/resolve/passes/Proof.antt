@@ -10,15 +10,14 @@ returns : tie.Need-returns
 returns c = dropped-not _ _ (c .if1 .taken)
 
 returns-2 : tie.Need-returns-2
-returns-2 c = ap (ltb 0) (c .word-at .ensures) ∙ dropped-new _ _ (c .before .before .if1 .left)
+returns-2 c = ap (ltb 0) (rw (c .before .before .patterns-at .ensures) at (c .word-at .ensures)) ∙ dropped-new _ _ (c .before .before .before .if1 .left)
 
 pub passes-spec : {M : Type 1} → statement M
 passes-spec =
     tie.close
     (tie.spec
     returns
-    (λ c. search needs)
-    (λ c. search needs)
+    (λ c κs. search needs)
     (λ c. search needs)
     (λ c. search needs)
     (λ c κs. search needs)

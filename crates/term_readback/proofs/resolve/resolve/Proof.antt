@@ -43,23 +43,23 @@ same-length-2 c = c .before .before .before .before .before .before .advance .ke
 returns : tie.Need-returns Inv-loop μ-loop
 returns c = first-short _ _ _ _ _ _ _ _ _ _ _ _ (c .before .before .before .before .before .before .before .before .before .before .before .before .before .before .before .before .before .before .before .pre .0) (c .before .before .before .before .before .before .before .before .before .before .before .before .before .before .before .before .before .before .before .pre .1) _ _ (c .before .before .before .before .before .before .before .before .before .before .before .before .before .begin .ensures) (c .before .before .before .before .before .before .advance .last .1 .0) (c .before .before .before .before .before .before .advance .last .1 .1 .0) (walks-short _ _ _ _ _ _ _ _ _ _ _ _ (first-ready _ _ _ _ _ _ _ _ _ _ _ _ (c .before .before .before .before .before .before .before .before .before .before .before .before .before .before .before .before .before .before .before .pre .0) (c .before .before .before .before .before .before .before .before .before .before .before .before .before .before .before .before .before .before .before .pre .1) _ _ (c .before .before .before .before .before .before .before .before .before .before .before .before .before .begin .ensures)) (first-low _ _ _ _ _ _ _ _ _ _ _ _ (c .before .before .before .before .before .before .before .before .before .before .before .before .before .before .before .before .before .before .before .pre .0) (c .before .before .before .before .before .before .before .before .before .before .before .before .before .before .before .before .before .before .before .pre .1) _ _ (c .before .before .before .before .before .before .before .before .before .before .before .before .before .begin .ensures)) _ _ _ _ _ (walks-at _ _ _ _ _ _ _ _ _ _ _ _ _ _ _ _ _ (c .before .before .before .before .before .before .before .before .before .loop-test .taken) (c .before .before .before .before .before .before .before .before .before .before .loop .inv .2)) (c .before .before .before .before .before .before .advance .last .1 .0) (c .before .before .before .before .before .before .advance .last .1 .1 .0) (c .before .before .before .before .before .before .before .before .before .before .loop .inv .1) (rw (c .enum-told .given .1) at (c .before .before .before .before .before .before .advance .ensures)))
 
-add-word-at-2 : tie.Need-add-word-at-2 Inv-loop μ-loop
-add-word-at-2 c = let h = done-there _ _ _ _ _ _ _ _ _ _ _ _ (first-ready _ _ _ _ _ _ _ _ _ _ _ _ (c .before .before .before .before .before .before .before .before .before .before .before .before .pre .0) (c .before .before .before .before .before .before .before .before .before .before .before .before .pre .1) _ _ (c .before .before .before .before .before .before .begin .ensures)) (first-low _ _ _ _ _ _ _ _ _ _ _ _ (c .before .before .before .before .before .before .before .before .before .before .before .before .pre .0) (c .before .before .before .before .before .before .before .before .before .before .before .before .pre .1) _ _ (c .before .before .before .before .before .before .begin .ensures)) _ _ _ _ (walks-none _ _ _ _ _ _ _ _ _ _ _ _ _ _ _ _ _ (c .before .before .loop-test .left) (c .before .before .before .loop .inv .2)) (c .before .before .before .before .before .before .begin .ensures .node) in omega (arith, h .0, h .1)
+add-word-at : tie.Need-add-word-at Inv-loop μ-loop
+add-word-at c = let h = done-there _ _ _ _ _ _ _ _ _ _ _ _ (first-ready _ _ _ _ _ _ _ _ _ _ _ _ (c .before .before .before .before .before .before .before .before .before .before .before .before .before .pre .0) (c .before .before .before .before .before .before .before .before .before .before .before .before .before .pre .1) _ _ (c .before .before .before .before .before .before .before .begin .ensures)) (first-low _ _ _ _ _ _ _ _ _ _ _ _ (c .before .before .before .before .before .before .before .before .before .before .before .before .before .pre .0) (c .before .before .before .before .before .before .before .before .before .before .before .before .before .pre .1) _ _ (c .before .before .before .before .before .before .before .begin .ensures)) _ _ _ _ (walks-none _ _ _ _ _ _ _ _ _ _ _ _ _ _ _ _ _ (c .before .before .before .loop-test .left) (c .before .before .before .before .loop .inv .2)) (c .before .before .before .before .before .before .before .begin .ensures .node) in omega (arith, h .0, h .1, c .before .patterns-at .ensures)
 
 word-at-requires : tie.Need-word-at-requires Inv-loop μ-loop
-word-at-requires c κs = done-there _ _ _ _ _ _ _ _ _ _ _ _ (first-ready _ _ _ _ _ _ _ _ _ _ _ _ (c .before .before .before .before .before .before .before .before .before .before .before .before .pre .0) (c .before .before .before .before .before .before .before .before .before .before .before .before .pre .1) _ _ (c .before .before .before .before .before .before .begin .ensures)) (first-low _ _ _ _ _ _ _ _ _ _ _ _ (c .before .before .before .before .before .before .before .before .before .before .before .before .pre .0) (c .before .before .before .before .before .before .before .before .before .before .before .before .pre .1) _ _ (c .before .before .before .before .before .before .begin .ensures)) _ _ _ _ (walks-none _ _ _ _ _ _ _ _ _ _ _ _ _ _ _ _ _ (c .before .before .loop-test .left) (c .before .before .before .loop .inv .2)) (c .before .before .before .before .before .before .begin .ensures .node)
+word-at-requires c κs = rw (c .before .patterns-at .ensures) (done-there _ _ _ _ _ _ _ _ _ _ _ _ (first-ready _ _ _ _ _ _ _ _ _ _ _ _ (c .before .before .before .before .before .before .before .before .before .before .before .before .before .pre .0) (c .before .before .before .before .before .before .before .before .before .before .before .before .before .pre .1) _ _ (c .before .before .before .before .before .before .before .begin .ensures)) (first-low _ _ _ _ _ _ _ _ _ _ _ _ (c .before .before .before .before .before .before .before .before .before .before .before .before .before .pre .0) (c .before .before .before .before .before .before .before .before .before .before .before .before .before .pre .1) _ _ (c .before .before .before .before .before .before .before .begin .ensures)) _ _ _ _ (walks-none _ _ _ _ _ _ _ _ _ _ _ _ _ _ _ _ _ (c .before .before .before .loop-test .left) (c .before .before .before .before .loop .inv .2)) (c .before .before .before .before .before .before .before .begin .ensures .node))
 
-sub-t33 : tie.Need-sub-t33 Inv-loop μ-loop
-sub-t33 c = done-some _ _ _ _ _ _ _ _ _ _ _ _ (first-ready _ _ _ _ _ _ _ _ _ _ _ _ (c .before .before .before .before .before .before .before .before .before .before .before .before .before .pre .0) (c .before .before .before .before .before .before .before .before .before .before .before .before .before .pre .1) _ _ (c .before .before .before .before .before .before .before .begin .ensures)) (first-low _ _ _ _ _ _ _ _ _ _ _ _ (c .before .before .before .before .before .before .before .before .before .before .before .before .before .pre .0) (c .before .before .before .before .before .before .before .before .before .before .before .before .before .pre .1) _ _ (c .before .before .before .before .before .before .before .begin .ensures)) _ _ _ _ (walks-none _ _ _ _ _ _ _ _ _ _ _ _ _ _ _ _ _ (c .before .before .before .loop-test .left) (c .before .before .before .before .loop .inv .2)) (c .before .before .before .before .before .before .before .begin .ensures .node) _ (c .word-at .ensures)
+sub-t31 : tie.Need-sub-t31 Inv-loop μ-loop
+sub-t31 c = done-some _ _ _ _ _ _ _ _ _ _ _ _ (first-ready _ _ _ _ _ _ _ _ _ _ _ _ (c .before .before .before .before .before .before .before .before .before .before .before .before .before .before .pre .0) (c .before .before .before .before .before .before .before .before .before .before .before .before .before .before .pre .1) _ _ (c .before .before .before .before .before .before .before .before .begin .ensures)) (first-low _ _ _ _ _ _ _ _ _ _ _ _ (c .before .before .before .before .before .before .before .before .before .before .before .before .before .before .pre .0) (c .before .before .before .before .before .before .before .before .before .before .before .before .before .before .pre .1) _ _ (c .before .before .before .before .before .before .before .before .begin .ensures)) _ _ _ _ (walks-none _ _ _ _ _ _ _ _ _ _ _ _ _ _ _ _ _ (c .before .before .before .before .loop-test .left) (c .before .before .before .before .before .loop .inv .2)) (c .before .before .before .before .before .before .before .before .begin .ensures .node) _ (rw (c .before .before .patterns-at .ensures) at (c .word-at .ensures))
 
 same-length-3 : tie.Need-same-length-3 Inv-loop μ-loop
-same-length-3 c = c .before .before .before .before .loop .inv .0 ∙ c .before .before .before .before .before .before .before .begin .kept .0
+same-length-3 c = c .before .before .before .before .before .loop .inv .0 ∙ c .before .before .before .before .before .before .before .before .begin .kept .0
 
 same-length-4 : tie.Need-same-length-4 Inv-loop μ-loop
-same-length-4 c = c .before .before .before .before .loop .inv .1
+same-length-4 c = c .before .before .before .before .before .loop .inv .1
 
 returns-2 : tie.Need-returns-2 Inv-loop μ-loop
-returns-2 c = first-done _ _ _ _ _ _ _ _ _ _ _ _ (c .before .before .before .before .before .before .before .before .before .before .before .before .before .pre .0) (c .before .before .before .before .before .before .before .before .before .before .before .before .before .pre .1) _ _ (c .before .before .before .before .before .before .before .begin .ensures) (c .before .before .before .before .loop .work) (c .before .before .before .before .loop .words) (c .before .before .before .before .loop .grown) (c .before .before .before .before .loop .n) _ (walks-done _ _ _ _ _ _ _ _ _ _ _ _ (first-ready _ _ _ _ _ _ _ _ _ _ _ _ (c .before .before .before .before .before .before .before .before .before .before .before .before .before .pre .0) (c .before .before .before .before .before .before .before .before .before .before .before .before .before .pre .1) _ _ (c .before .before .before .before .before .before .before .begin .ensures)) (first-low _ _ _ _ _ _ _ _ _ _ _ _ (c .before .before .before .before .before .before .before .before .before .before .before .before .before .pre .0) (c .before .before .before .before .before .before .before .before .before .before .before .before .before .pre .1) _ _ (c .before .before .before .before .before .before .before .begin .ensures)) _ _ _ _ (walks-none _ _ _ _ _ _ _ _ _ _ _ _ _ _ _ _ _ (c .before .before .before .loop-test .left) (c .before .before .before .before .loop .inv .2)) (c .before .before .before .before .before .before .before .begin .ensures .node) _ (c .word-at .ensures) _ refl)
+returns-2 c = first-done _ _ _ _ _ _ _ _ _ _ _ _ (c .before .before .before .before .before .before .before .before .before .before .before .before .before .before .pre .0) (c .before .before .before .before .before .before .before .before .before .before .before .before .before .before .pre .1) _ _ (c .before .before .before .before .before .before .before .before .begin .ensures) (c .before .before .before .before .before .loop .work) (c .before .before .before .before .before .loop .words) (c .before .before .before .before .before .loop .grown) (c .before .before .before .before .before .loop .n) _ (walks-done _ _ _ _ _ _ _ _ _ _ _ _ (first-ready _ _ _ _ _ _ _ _ _ _ _ _ (c .before .before .before .before .before .before .before .before .before .before .before .before .before .before .pre .0) (c .before .before .before .before .before .before .before .before .before .before .before .before .before .before .pre .1) _ _ (c .before .before .before .before .before .before .before .before .begin .ensures)) (first-low _ _ _ _ _ _ _ _ _ _ _ _ (c .before .before .before .before .before .before .before .before .before .before .before .before .before .before .pre .0) (c .before .before .before .before .before .before .before .before .before .before .before .before .before .before .pre .1) _ _ (c .before .before .before .before .before .before .before .before .begin .ensures)) _ _ _ _ (walks-none _ _ _ _ _ _ _ _ _ _ _ _ _ _ _ _ _ (c .before .before .before .before .loop-test .left) (c .before .before .before .before .before .loop .inv .2)) (c .before .before .before .before .before .before .before .before .begin .ensures .node) _ (rw (c .before .before .patterns-at .ensures) at (c .word-at .ensures)) _ refl)
 
 pub resolve-spec : {M : Type 1} → statement M
 resolve-spec =
@@ -78,12 +78,11 @@ resolve-spec =
     same-length
     same-length-2
     returns
+    (λ c κs. search needs)
     (λ c. search needs)
-    (λ c. search needs)
-    (λ c. search needs)
-    add-word-at-2
+    add-word-at
     word-at-requires
-    sub-t33
+    sub-t31
     same-length-3
     same-length-4
     returns-2)

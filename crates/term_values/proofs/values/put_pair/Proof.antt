@@ -8,13 +8,17 @@ use Rattle.term_values.proofs.values.put_pair.Tie as tie
 
 returns : tie.Need-returns
 returns c =
-    let a = c .before .args in
-    puts-pair _ _ _ (c .before .pre .0) (a .top) (a .x .0) (a .n .0) (c .before .pre .1)
+    let a = c .before .before .before .before .args in
+    rw (c .before .pairs-at .ensures) (puts-pair _ _ _ (c .before .before .before .before .pre .0) (a .top) (a .x .0) (a .n .0) (c .before .before .before .before .pre .1))
+
+slice-write-work-2 : tie.Need-slice-write-work-2
+slice-write-work-2 c = let p = c .before .before .before .before .pre in simp length-set (omega (arith, p .0 .room, p .0 .fits, p .1, c .before .pairs-at .ensures))
 
 pub put-pair-spec : {M : Type 1} → statement M
 put-pair-spec =
     tie.close
     (tie.spec
+    (λ c κs. search needs)
     (λ c. search needs)
     (λ c. search needs)
     (λ c. search needs)
@@ -22,8 +26,6 @@ put-pair-spec =
     (λ c. search needs)
     (λ c. search needs)
     (λ c. search needs)
-    (λ c. search needs)
-    (λ c. search needs)
-    (λ c. let p = c .before .pre in simp length-set (omega (arith, p .0 .room, p .0 .fits, p .1)))
+    slice-write-work-2
     (λ c. search needs)
     returns)
