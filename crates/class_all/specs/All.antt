@@ -33,9 +33,9 @@ use Rattle.class_premises.specs.declared.building.Building.{Building}
 use Rattle.class_premises.specs.declared.building.Counted.{Counted}
 use Rattle.class_premises.specs.declared.building.ClassMade.{ClassMade}
 use Rattle.class_premises.specs.declared.building.ClassMade.the-variants.{Made, Refused}
-use Rattle.class_premises.specs.Buffers.{Buffers, lent, handed}
+use Rattle.class_premises.specs.Buffers.{Buffers, lent, handed, uncounted}
 use Rattle.class_all.specs.Class.{Asks, classRun, Makes, MakingIn, MakesIn}
-use Rattle.class_all.specs.Totals.{Addable, summed, noTotals, Sums, Low, sums-none, low-none, sums-more, low-more, addable}
+use Rattle.class_all.specs.Totals.{Addable, summed, Sums, Low, sums-none, low-none, sums-more, low-more, addable}
 
 -- ---- what is asked and answered
 -- what stands at entry: no class is made, and the keys count so many
@@ -152,7 +152,7 @@ module _ (bytes work class words cells : List ℕ) (c : Catalog) (k : Keying) (l
         omega (arith, B .counted, Q .few, length-steps bytes (recordsOf work c) (K .pack) (S .reads), S .keyed .keyable .words, K .small)
 
     -- no class is made yet
-    pub turned-none : Turned bytes work class words cells work class words cells c k l st memo count fill (handed c k l st memo fill) noTotals 0
+    pub turned-none : Turned bytes work class words cells work class words cells c k l st memo count fill (handed c k l st memo fill) uncounted 0
     turned-none = record {
       same = refl;
       most = omega arith;
@@ -163,7 +163,7 @@ module _ (bytes work class words cells : List ℕ) (c : Catalog) (k : Keying) (l
       rows = outside-none fill fill class;
       rising = omega arith;
       low = low-none;
-      each = λ r P b B. record { built = b; standing = B .standing; number = sym (ap length (B .none)); left = λ L e. refl; sums = subst (Sums noTotals) (sym (B .none)) sums-none };
+      each = λ r P b B. record { built = b; standing = B .standing; number = sym (ap length (B .none)); left = λ L e. refl; sums = subst (Sums uncounted) (sym (B .none)) sums-none };
     }
 
     -- ---- a turn

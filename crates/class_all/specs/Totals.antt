@@ -7,6 +7,7 @@ use Rattle.definition.specs.Classes.{Class}
 use Rattle.definition.specs.Figures.{total, classVars, flexVars}
 use Rattle.class_rule.specs.Done.{Few}
 use Rattle.class_premises.specs.declared.building.Counted.{Counted}
+use Rattle.class_premises.specs.Buffers.{uncounted}
 
 -- no sum is too great for a word
 pub record Addable (t f : Counted) : Type 0 where
@@ -19,10 +20,6 @@ pub record Addable (t f : Counted) : Type 0 where
 -- one class more
 abbrev pub summed : Counted → Counted → Counted
 summed t f = record { vars = t .vars + f .vars; flex = t .flex + f .flex; fixed = t .fixed + f .fixed; entries = t .entries + f .entries; renamings = t .renamings + f .renamings }
-
--- of no class
-abbrev pub noTotals : Counted
-noTotals = record { vars = 0; flex = 0; fixed = 0; entries = 0; renamings = 0 }
 
 -- these are the sums over classes cs
 pub record Sums (t : Counted) (cs : List Class) : Type 0 where
@@ -41,11 +38,11 @@ pub record Low (t : Counted) (i : ℕ) : Type 0 where
   pub renamings : t .renamings ≤ 4294967295 * i
 
 -- ---- no class
-pub sums-none : Sums noTotals []
+pub sums-none : Sums uncounted []
 unfolding total
 sums-none = record { vars = refl; flex = refl; fixed = refl; entries = refl; renamings = refl }
 
-pub low-none : Low noTotals 0
+pub low-none : Low uncounted 0
 low-none = record { vars = omega arith; flex = omega arith; fixed = omega arith; entries = omega arith; renamings = omega arith }
 
 -- ---- one class more

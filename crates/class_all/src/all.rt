@@ -7,7 +7,7 @@ use class_premises::building::Counted;
 ghost use Rattle.class_premises.specs.Buffers.{lent};
 ghost use Rattle.class_all.specs.All.{BeginningIn, BuildsIn};
 
-// The `count` classes that the keys count, where none is made yet, with the sums of what figures count. A refusal leaves open what the
+// The `count` classes that the keys count, where none is made yet, with the sums of what figures count. A refusal leaves open what all
 // buffers but the pack hold then.
 pub fn make_classes(
     pack: &[u8],
@@ -22,13 +22,7 @@ pub fn make_classes(
     ensures { λ r. ⌜ BuildsIn (lent (now (pack .entry)) (now (class .entry)) (now (words .entry)) (now (cells .entry)) (now (work .entry))) (lent (now (pack .entry)) (now (class .exit)) (now (words .exit)) (now (cells .exit)) (now (work .exit))) s count r ⌝ }
 {
     let mut at = s;
-    let mut sums = Counted {
-        vars: 0,
-        flex: 0,
-        fixed: 0,
-        entries: 0,
-        renamings: 0,
-    };
+    let mut sums = Counted::NONE;
     let mut i: usize = 0;
     while i < count {
         match make_class(pack, work, class, words, cells, at, i) {

@@ -35,7 +35,7 @@ fn step_ruling(pack: &[u8], work: &[u32], c: Catalog, s: usize) -> Ruling
     }
 }
 
-// Class `i`. A refusal leaves open what work, the pattern buffer and the cells hold then.
+// Class `i`. A refusal leaves open what all buffers but the pack hold then.
 pub fn make_class(
     pack: &[u8],
     work: &mut [u32],

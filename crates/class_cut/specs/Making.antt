@@ -36,10 +36,9 @@ use Rattle.class_keys.specs.declared.classes.Counts.{Counts}
 use Rattle.term_lift.specs.Nodes.{laid-same}
 use Rattle.class_premises.specs.declared.layout.Layout.{Layout}
 use Rattle.class_premises.specs.declared.building.Building.{Building}
-use Rattle.class_premises.specs.declared.building.Counted.{Counted}
 use Rattle.class_premises.specs.declared.building.ClassMade.{ClassMade}
 use Rattle.class_premises.specs.declared.building.ClassMade.the-variants.{Made, Refused}
-use Rattle.class_premises.specs.Buffers.{handed}
+use Rattle.class_premises.specs.Buffers.{handed, uncounted}
 use Rattle.class_premises.specs.Standing.{liftedOf, Standing}
 use Rattle.class_premises.specs.Added.{builtWith, add-short-patterns, add-short-row, add-fine}
 use Rattle.class_premises.specs.More.{standing-more}
@@ -78,10 +77,6 @@ pub record Done (bytes work class words work′ class′ words′ cells : List �
   pub conclusion : ℕ
   pub last : built .classes ≡ b .classes ++ (cutClass P p conclusion ∷ [])
   pub grows : Grows (b .store) (built .store)
-
--- figures count nothing of it
-abbrev pub uncounted : Counted
-uncounted = record { vars = 0; flex = 0; fixed = 0; entries = 0; renamings = 0 }
 
 -- of whatever stands
 abbrev pub Whatever : List ℕ → List ℕ → List ℕ → List ℕ → Catalog → Keying → Layout → Store → ℕ → ℕ → ℕ → (List ℕ → Counts → Memo → Pack → Built → Type 0) → Type 0

@@ -12,7 +12,7 @@ use store::nodes::Interned;
 use term_lift::lift::Lifted;
 ghost use Rattle.class_cut.specs.Making.{CuttingIn, CutsIn};
 
-// The cut class of predicate `p`, class `i`; figures count nothing of it. A refusal leaves open what work and the pattern buffer hold then.
+// The cut class of predicate `p`, class `i`; figures count nothing of it. A refusal leaves open what all buffers but the pack hold then.
 pub fn make_cut(
     pack: &[u8],
     work: &mut [u32],
@@ -37,14 +37,7 @@ pub fn make_cut(
                 return ClassMade::Refused(Refusal::Short(Buffer::CLASS));
             }
             write_cut(work, class, s, i, q, n);
-            let f = Counted {
-                vars: 0,
-                flex: 0,
-                fixed: 0,
-                entries: 0,
-                renamings: 0,
-            };
-            ClassMade::Made(go_on(s, more, s.memo, s.fill + 3 + n), f)
+            ClassMade::Made(go_on(s, more, s.memo, s.fill + 3 + n), Counted::NONE)
         }
         Interned::Short => ClassMade::Refused(Refusal::Short(Buffer::PATTERN)),
     }

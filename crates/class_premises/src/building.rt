@@ -28,6 +28,17 @@ pub struct Counted {
     pub renamings: usize,
 }
 
+impl Counted {
+    // Of no class, and of a cut one.
+    pub const NONE: Counted = Counted {
+        vars: 0,
+        flex: 0,
+        fixed: 0,
+        entries: 0,
+        renamings: 0,
+    };
+}
+
 // What is at hand then, and what figures count; or why a class is not made.
 pub enum ClassMade {
     Made(Building, Counted),

@@ -58,7 +58,7 @@ pub struct Fresh {
 }
 
 // Instance `x` of the premise and a copy are unified, and the copy's variables are noted. A refusal, which is a clash, leaves open what
-// the graph's table holds then.
+// work holds then.
 fn join_premise(
     work: &mut [u32],
     cells: &[u32],
@@ -91,8 +91,7 @@ fn join_premise(
     }
 }
 
-// The premise's instance is put into the graph and unified with a copy. A refusal leaves open what the graph's table and the cells hold
-// then.
+// The premise's instance is put into the graph and unified with a copy. A refusal leaves open what work and the cells hold then.
 fn meet_premise(
     pack: &[u8],
     work: &mut [u32],
@@ -159,8 +158,8 @@ fn copy_class(
 }
 
 // The premise that starts with a word of a rule, whose ref has the class with a row: a copy of the class's conclusion and the premise's
-// instance are put into graph `g` and unified, and the copy's variables are noted. A refusal leaves open what the cells hold then, and
-// work from the memo's words on.
+// instance are put into graph `g` and unified, and the copy's variables are noted. A refusal leaves open what work and
+// the cells hold then.
 pub fn take_premise(
     pack: &[u8],
     work: &mut [u32],

@@ -26,7 +26,7 @@ pub enum Premised {
     Refused(Refusal),
 }
 
-// Premise `i`, behind those that are taken. A refusal leaves open what the cells hold then, and work from the memo's words on.
+// Premise `i`, behind those that are taken. A refusal leaves open what work and the cells hold then.
 fn next_premise(
     pack: &[u8],
     work: &mut [u32],
@@ -57,8 +57,8 @@ fn next_premise(
     take_premise(pack, work, class, words, cells, s, t.memo, t.graph, env, p)
 }
 
-// All premises, from a graph of the rule's variables on; the instance of each is put down. A refusal leaves open what instances and cells
-// hold then, and work from the memo's words on.
+// All premises, from a graph of the rule's variables on; the instance of each is put down. A refusal leaves open what work, the
+// cells and the instances hold then.
 pub fn take_premises(
     pack: &[u8],
     work: &mut [u32],

@@ -42,7 +42,7 @@ fn with_refusal(c: Conclusion) -> Ended
 }
 
 // Class `i` behind its premises: the rule's conclusion and the variables of copies read back, then the row. A refusal leaves open what
-// work, the pattern buffer and the cells hold then.
+// all buffers but the pack hold then.
 fn add_class(
     pack: &[u8],
     work: &mut [u32],
@@ -96,8 +96,8 @@ fn add_class(
     }
 }
 
-// The class of the step `u.step`, class `i`: `env` are the numbers below that of the rule's variables. A refusal leaves open what work,
-// the pattern buffer and the cells hold then.
+// The class of the step `u.step`, class `i`: `env` are the numbers below that of the rule's variables. A refusal leaves open what all
+// buffers but the pack hold then.
 fn derive_class(
     pack: &[u8],
     work: &mut [u32],
@@ -119,7 +119,7 @@ fn derive_class(
     }
 }
 
-// The class of the step `u.step`, class `i`. A refusal leaves open what work, the pattern buffer and the cells hold then.
+// The class of the step `u.step`, class `i`. A refusal leaves open what all buffers but the pack hold then.
 pub fn make_rule(
     pack: &[u8],
     work: &mut [u32],

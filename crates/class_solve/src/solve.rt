@@ -25,7 +25,7 @@ pub enum Solved {
     Refused(Refusal),
 }
 
-// The unified premises tested for circles, and against the judgments of the refs. A refusal leaves open what the graph's table holds then.
+// The unified premises tested for circles, and against the judgments of the refs. A refusal leaves open what work holds then.
 fn value_premises(
     pack: &[u8],
     work: &mut [u32],
@@ -63,8 +63,8 @@ fn value_premises(
     }
 }
 
-// The premises taken into a graph of the rule's variables, then tested. A refusal leaves open what instances and cells hold then, and
-// work from the memo's words on.
+// The premises taken into a graph of the rule's variables, then tested. A refusal leaves open what work, the cells and the
+// instances hold then.
 fn solve_from(
     pack: &[u8],
     work: &mut [u32],
@@ -89,7 +89,7 @@ fn solve_from(
 }
 
 // The premises of the step that makes a class, solved: `env` are the numbers below that of the rule's variables. A refusal leaves open
-// what instances and cells hold then, and work from the memo's words on.
+// what work, the cells and the instances hold then.
 pub fn solve_premises(
     pack: &[u8],
     work: &mut [u32],
