@@ -14,7 +14,7 @@ pub fn begin_store(work: &mut [u32], words: &[u32], l: Layout) -> Store
         nodes: l.nodes,
         end: l.copied,
     };
-    let from = l.lifted + 3 * l.nodes;
+    let from = l.lifted + Lifted::NODE * l.nodes;
     let to = l.copied;
     let st = Store::new(&mut work[from..to], words);
     lifted.clear(work);

@@ -1,8 +1,10 @@
 // Where the goals' instance test has its tables when all classes are made.
 use base::limit::Limit;
 use class_premises::layout::Layout;
+use memo::memo::Memo;
 use store::nodes::Store;
 use term_instance::tables::Instance;
+use term_lift::lift::Lifted;
 ghost use mathlib.Core.Path.{_≡_};
 ghost use lib.ListN.{length};
 ghost use Rattle.class_build.specs.GoalTables.{Spacious, testTables};
@@ -14,12 +16,12 @@ pub fn instance_tables(cells: &[u32], l: Layout, st: Store) -> Instance
 {
     let pairs = l.copied;
     let seen = pairs + 2 * st.used;
-    let values = seen + 2 * st.len;
+    let values = seen + Memo::ENTRY * st.len;
     Instance {
-        index: l.lifted + 3 * l.nodes,
+        index: l.lifted + Lifted::NODE * l.nodes,
         pairs: pairs,
         seen: seen,
         values: values,
-        end: values + 2 * (cells.len() + Limit::ARITY),
+        end: values + Memo::ENTRY * (cells.len() + Limit::ARITY),
     }
 }

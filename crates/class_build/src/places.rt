@@ -2,7 +2,11 @@
 use base::limit::Limit;
 use class_keys::classes::Keying;
 use class_premises::layout::Layout;
+use graph::places::copies_end;
+use memo::memo::Memo;
 use pack_tables::catalog::Catalog;
+use store::nodes::Store;
+use term_lift::lift::Lifted;
 ghost use mathlib.Core.Path.{_≡_};
 ghost use Prim.Native.Nat.{_<_};
 ghost use Rattle.class_keys.specs.ClassWords.{endOf};
@@ -26,14 +30,13 @@ pub fn layout(work: &[u32], words: &[u32], cells: &[u32], k: Keying, nodes: usiz
     ensures { λ r. ⌜ Places (now (work .entry)) (now (words .entry)) (now (cells .entry)) k nodes r ⌝ }
 {
     let room = words.len() / 2;
-    let n = cells.len();
-    let rows = k.at + (6 * k.cap + 1);
+    let rows = k.at + (Keying::END * k.cap + 1);
     let lifted = rows + k.cap;
-    let index = lifted + 3 * nodes;
-    let copied = index + (4 * room + 1);
-    let walk = copied + 2 * room;
+    let index = lifted + Lifted::NODE * nodes;
+    let copied = index + (Store::INDEX * room + 1);
+    let walk = copied + Memo::ENTRY * room;
     let variables = walk + 2 * room;
-    let graph = variables + (n + Limit::ARITY);
+    let graph = variables + (cells.len() + Limit::ARITY);
     Layout {
         rows: rows,
         lifted: lifted,
@@ -42,6 +45,6 @@ pub fn layout(work: &[u32], words: &[u32], cells: &[u32], k: Keying, nodes: usiz
         walk: walk,
         variables: variables,
         graph: graph,
-        end: graph + (12 * n + 7),
+        end: graph + copies_end(cells),
     }
 }

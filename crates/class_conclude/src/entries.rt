@@ -33,7 +33,7 @@ fn renames(work: &[u32], words: &[u32], l: Layout, st: Store, p: Pattern) -> usi
     requires { ⌜ Indexed (now work) (now words) (liftedOf l) st × (p .0 < length (nodes (now words) st)) ⌝ }
     ensures { λ r. ⌜ r ≡ mark (isVariable (getD (nodes (now (words .entry)) st) (p .0) noNode)) ⌝ }
 {
-    let from = l.lifted + 3 * l.nodes;
+    let from = l.lifted + Lifted::NODE * l.nodes;
     let end = l.copied;
     if st.head(&work[from..end], words, p) == Pattern::VAR {
         return 1;

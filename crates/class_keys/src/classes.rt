@@ -20,6 +20,17 @@ pub struct Keying {
     pub cap: usize,
 }
 
+impl Keying {
+    // Where the words stand, in so many times the room: the classes' first steps, their counts, the slots, and the end but for one.
+    pub const FIRSTS: usize = 1;
+
+    pub const COUNTS: usize = 2;
+
+    pub const SLOTS: usize = 3;
+
+    pub const END: usize = 6;
+}
+
 // How many classes there are, and how many needed steps.
 pub struct Counts {
     pub classes: usize,
@@ -40,7 +51,7 @@ pub fn class_count(work: &[u32], k: Keying, i: usize) -> usize
     requires { ⌜ k .at + 2 * k .cap + i < length (now work) ⌝ }
     ensures { λ r. ⌜ r ≡ countIn (now (work .entry)) k i ⌝ }
 {
-    let p = k.at + 2 * k.cap + i;
+    let p = k.at + Keying::COUNTS * k.cap + i;
     work[p] as usize
 }
 
@@ -49,7 +60,7 @@ pub fn join_class(work: &mut [u32], k: Keying, i: usize)
     requires { ⌜ (k .at + 2 * k .cap + i < length (now work)) × (countIn (now work) k i < 4294967295) ⌝ }
     ensures { λ _. ⌜ now (work .exit) ≡ joined (now (work .entry)) k i ⌝ }
 {
-    let p = k.at + 2 * k.cap + i;
+    let p = k.at + Keying::COUNTS * k.cap + i;
     work[p] = work[p] + 1;
 }
 
@@ -60,8 +71,8 @@ pub fn begin_class(work: &mut [u32], k: Keying, m: usize, t: usize, s: usize)
 {
     let p = k.at + k.cap + m;
     work[p] = s as u32;
-    let q = k.at + 2 * k.cap + m;
+    let q = k.at + Keying::COUNTS * k.cap + m;
     work[q] = 1;
-    let r = k.at + 3 * k.cap + t;
+    let r = k.at + Keying::SLOTS * k.cap + t;
     work[r] = m as u32 + 1;
 }

@@ -23,7 +23,7 @@ fn clear_slots(work: &mut [u32], k: Keying, n: usize)
     requires { ⌜ Clearing (now work) k n ⌝ }
     ensures { λ _. ⌜ Cleared (now (work .entry)) (now (work .exit)) k n ⌝ }
 {
-    let a = k.at + 3 * k.cap;
+    let a = k.at + Keying::SLOTS * k.cap;
     zero_words(&mut work[a..a + (3 * n + 1)]);
 }
 

@@ -54,7 +54,7 @@ fn probe(
     requires { ⌜ Searching (now pack) (now work) (now class) c k m h (now key) ⌝ }
     ensures { λ r. ⌜ Probed (now (pack .entry)) (now (work .entry)) (now (class .entry)) c k m h (now (key .entry)) r ⌝ }
 {
-    let a = k.at + 3 * k.cap;
+    let a = k.at + Keying::SLOTS * k.cap;
     let mut t = h;
     loop {
         let id = work[a + t];

@@ -8,6 +8,7 @@ use definition::Buffer;
 use definition::Refusal;
 use graph::graph::Graph;
 use graph::graph::Pushed;
+use graph::places::copies_at;
 use graph_unify::unify::Outcome;
 use graph_unify::unify::unify;
 use memo::memo::Memo;
@@ -19,6 +20,7 @@ use term_copy::copy::copy;
 use term_copy::node::Copying;
 use term_instantiate::terms::Place;
 use term_instantiate::terms::instantiate;
+use term_lift::lift::Lifted;
 ghost use Rattle.class_premises.specs.Buffers.{lent};
 ghost use Rattle.class_premises.specs.Joins.{Joining, JoinsTo};
 ghost use Rattle.class_premises.specs.Meets.{Meeting, MeetsTo};
@@ -76,7 +78,7 @@ fn join_premise(
     let end = l.end;
     match unify(g, cells, &mut work[at..end], x, f.node) {
         Outcome::Joined(_) => {
-            let list = at + (11 * cells.len() + 7);
+            let list = at + copies_at(cells);
             let noted = note_copies(work, l.variables, f.variables, list, p.copies);
             let memo = f.memo;
             let reached = Reached {
@@ -137,7 +139,7 @@ fn copy_class(
     let from = row + 3;
     let to = from + class[row + 2] as usize;
     let tables = Copying {
-        index: l.lifted + 3 * l.nodes,
+        index: l.lifted + Lifted::NODE * l.nodes,
         copied: l.copied,
         walk: l.walk,
         variables: l.variables,

@@ -7,6 +7,7 @@ use class_premises::building::Building;
 use class_premises::layout::Layout;
 use class_premises::row::begin_row;
 use graph::graph::Graph;
+use graph::places::numbers_at;
 ghost use Rattle.class_rule.specs.Marks.{Marking, Marked, WritingIn, WritesIn};
 
 // The marks of the `n` numbered variables, from `at` on; and how many are flexible.
@@ -22,7 +23,7 @@ fn put_flexes(
     requires { ⌜ Marking (now work) (now class) (now cells) l g at n ⌝ }
     ensures { λ r. ⌜ Marked (now (work .entry)) (now (class .entry)) (now (class .exit)) (now (cells .entry)) l g at n n r ⌝ }
 {
-    let numbers = l.graph + (10 * cells.len() + 7);
+    let numbers = l.graph + numbers_at(cells);
     let mut flex: usize = 0;
     let mut j: usize = 0;
     while j < n {

@@ -38,7 +38,7 @@ fn lengths_unfit(index: usize, words: usize) -> bool
     if 4294967295 <= words {
         return true;
     }
-    index < 4 * (words / 2) + 1
+    index < Store::INDEX * (words / 2) + 1
 }
 
 // Where the node at `at` ends: its arguments are cut where the words end.

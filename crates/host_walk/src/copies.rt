@@ -16,6 +16,7 @@ use dock_call::lent::Lent;
 use dock_call::opening::open_pack;
 use graph::graph::Graph;
 use graph::places::copies_at;
+use memo::memo::Memo;
 use memo::part::begin;
 use pack_reader::read::tables;
 use pack_tables::catalog::Catalog;
@@ -91,9 +92,9 @@ fn copying(l: Lifted, words: &[u32], cells: &[u32], flex: &[u32]) -> Copying
     requires { ⌜ Small l (length (now words)) (length (now cells)) (length (now flex)) ⌝ }
     ensures { λ r. ⌜ r ≡ copyingOf l (length (now (words .entry))) (length (now (cells .entry))) (length (now (flex .entry))) ⌝ }
 {
-    let index = l.at + 3 * l.nodes;
+    let index = l.at + Lifted::NODE * l.nodes;
     let copied = l.end;
-    let walk = copied + 2 * (words.len() / 2);
+    let walk = copied + Memo::ENTRY * (words.len() / 2);
     let variables = walk + 2 * (words.len() / 2);
     let graph = variables + flex.len();
     let end = graph + copies_at(cells);

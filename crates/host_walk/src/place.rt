@@ -19,9 +19,9 @@ pub fn lifting(work: &[u32], words: &[u32], c: Catalog) -> Lifted
     requires { ⌜ Sized (now work) (length (now words)) c ⌝ }
     ensures { λ r. ⌜ Lays (now (work .entry)) (length (now (words .entry))) c r ⌝ }
 {
-    let at = c.at + 9 * (5 * c.cap + 2) + c.cap;
+    let at = c.at + Catalog::TABLES * (Catalog::RECORD * c.cap + Catalog::MORE) + c.cap;
     let nodes = c.count(work, Catalog::NODES);
-    let end = at + 3 * nodes + (4 * (words.len() / 2) + 1);
+    let end = at + Lifted::NODE * nodes + (Store::INDEX * (words.len() / 2) + 1);
     Lifted {
         at: at,
         nodes: nodes,
@@ -34,7 +34,7 @@ pub fn open_store(pack: &[u8], work: &mut [u32], words: &[u32], c: Catalog, l: L
     requires { ⌜ Held (now pack) (now work) c × Lays (now work) (length (now words)) c l × (l .end ≤ length (now work)) × (length (now words) < 4294967295) ⌝ }
     ensures { λ r. ⌜ Stores (now (pack .entry)) (now (work .entry)) (now (work .exit)) (now (words .entry)) c l r ⌝ }
 {
-    let from = l.at + 3 * l.nodes;
+    let from = l.at + Lifted::NODE * l.nodes;
     let end = l.end;
     let st = Store::new(&mut work[from..end], words);
     l.clear(work);

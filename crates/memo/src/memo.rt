@@ -17,6 +17,9 @@ pub enum Known {
 }
 
 impl Memo {
+    // So many words a key: a stamp and a value.
+    pub const ENTRY: usize = 2;
+
     // The last stamp: behind it all words are cleared.
     pub const LAST: u32 = 4294967295;
 

@@ -58,6 +58,9 @@ fn free_slot(slots: &[u32], h: usize) -> usize
 }
 
 impl Store {
+    // The index has so many words for each node that the words have room for, and one more: where it starts, and three slots.
+    pub const INDEX: usize = 4;
+
     // A store without nodes; `index` has four words for each two of `words`, and one more.
     pub fn new(index: &mut [u32], words: &[u32]) -> Store
         requires { ⌜ Enough (now index) (now words) ⌝ }

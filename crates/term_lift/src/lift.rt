@@ -31,6 +31,9 @@ enum Turn {
 }
 
 impl Lifted {
+    // So many words are lifting's for each ground node: its pattern, and two of the stack.
+    pub const NODE: usize = 3;
+
     // Nothing is lifted.
     pub fn clear(self, work: &mut [u32])
         requires { ⌜ self .at + self .nodes ≤ length (now work) ⌝ }
@@ -96,7 +99,7 @@ fn finish(
 {
     let mut key = [0; Limit::KEY];
     let k = key_of(pack, work, c, l, n, &mut key);
-    let from = l.at + 3 * l.nodes;
+    let from = l.at + Lifted::NODE * l.nodes;
     let end = l.end;
     match st.intern(&mut work[from..end], words, &key[0..k]) {
         Interned::Id(p, more) => {

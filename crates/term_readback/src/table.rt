@@ -71,7 +71,7 @@ pub fn intern_key(
     requires { ⌜ Indexed (now work) (now words) l st × (0 < length (now key)) ⌝ }
     ensures { λ r. ⌜ Interns (now (work .entry)) (now (words .entry)) (now (work .exit)) (now (words .exit)) l st (now (key .entry)) r ⌝ }
 {
-    let from = l.at + 3 * l.nodes;
+    let from = l.at + Lifted::NODE * l.nodes;
     let end = l.end;
     st.intern(&mut work[from..end], words, key)
 }
