@@ -21,8 +21,7 @@ pub struct Keying {
 }
 
 impl Keying {
-    // Where the words stand, in so many times the room: the classes' first steps, their counts, the slots, and the end but for one.
-    pub const FIRSTS: usize = 1;
+    // Where the words stand, in so many times the room: the classes' counts, the slots, and the end but for one.
 
     pub const COUNTS: usize = 2;
 
