@@ -13,16 +13,16 @@ unify-requires c κs = let J = c .before .before .before .pre in (holds _ _ _ _ 
 note-copies-requires : tie.Need-note-copies-requires
 unfolding part
 note-copies-requires c κs =
-    let J = c .before .before .before .before .before .before .before .before .before .pre in
-    let U = rw (c .before .enum-told .given .1) at (c .before .before .before .before .before .unify .ensures) in
-    notes-room _ _ _ _ _ _ _ _ J _ (U .1)
+    let J = c .before .before .before .before .before .before .before .before .before .before .pre in
+    let U = rw (c .before .before .enum-told .given .1) at (c .before .before .before .before .before .before .unify .ensures) in
+    rw (c .before .copies-at .ensures) (notes-room _ _ _ _ _ _ _ _ J _ (U .1))
 
 returns : tie.Need-returns
 unfolding part
 returns c =
-    let J = c .before .before .before .before .before .before .before .before .before .before .before .before .before .pre in
-    let U = rw (c .before .before .before .before .before .enum-told .given .1) at (c .before .before .before .before .before .before .before .before .before .unify .ensures) in
-    let N = c .before .before .before .note-copies .ensures in
+    let J = c .before .before .before .before .before .before .before .before .before .before .before .before .before .before .pre in
+    let U = rw (c .before .before .before .before .before .before .enum-told .given .1) at (c .before .before .before .before .before .before .before .before .before .before .unify .ensures) in
+    let N = rw (c .before .before .before .before .before .copies-at .ensures) at (c .before .before .before .note-copies .ensures) in
     (refl, refl, refl, refl, joins-noted _ _ _ _ _ _ _ _ J _ (U .1) _ _ N, joins-on _ _ _ _ _ _ _ _ J _ (U .1) _ _ N _ U)
 
 returns-2 : tie.Need-returns-2
@@ -42,8 +42,7 @@ join-premise-spec =
     (λ c. search needs)
     unify-requires
     (λ c. search needs)
-    (λ c. search needs)
-    (λ c. search needs)
+    (λ c κs. search needs)
     (λ c. search needs)
     note-copies-requires
     (λ c. search needs)

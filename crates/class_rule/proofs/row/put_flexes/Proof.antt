@@ -15,26 +15,26 @@ abbrev μ-loop : tie.MeasureT-loop
 loop-holds : tie.Need-loop-holds Inv-loop μ-loop
 loop-holds c = marked-none _ _ _ _ _ _ _
 
-add-t17 : tie.Need-add-t17 Inv-loop μ-loop
-add-t17 c = omega (arith, marking-there _ _ _ _ _ _ _ (c .before .before .before .before .before .before .pre) _ (c .loop-test .taken))
+add-t15 : tie.Need-add-t15 Inv-loop μ-loop
+add-t15 c = omega (arith, c .before .before .before .numbers-at .ensures, marking-there _ _ _ _ _ _ _ (c .before .before .before .before .before .before .before .pre) _ (c .loop-test .taken))
 
-shared-slice-read-t20 : tie.Need-shared-slice-read-t20 Inv-loop μ-loop
-shared-slice-read-t20 c = omega (arith, marking-there _ _ _ _ _ _ _ (c .before .before .before .before .before .before .before .pre) _ (c .before .loop-test .taken))
+shared-slice-read-t18 : tie.Need-shared-slice-read-t18 Inv-loop μ-loop
+shared-slice-read-t18 c = omega (arith, c .before .before .before .before .numbers-at .ensures, marking-there _ _ _ _ _ _ _ (c .before .before .before .before .before .before .before .before .pre) _ (c .before .loop-test .taken))
 
 flex-mark-requires : tie.Need-flex-mark-requires Inv-loop μ-loop
-flex-mark-requires c κs = marking-asked _ _ _ _ _ _ _ (c .before .before .before .before .before .before .before .pre) _ (c .before .loop-test .taken)
+flex-mark-requires c κs = rw (c .before .before .before .before .numbers-at .ensures) (marking-asked _ _ _ _ _ _ _ (c .before .before .before .before .before .before .before .before .pre) _ (c .before .loop-test .taken))
 
 add-class : tie.Need-add-class Inv-loop μ-loop
-add-class c = omega (arith, c .before .before .before .before .before .before .before .before .pre .room, c .before .before .loop-test .taken)
+add-class c = omega (arith, c .before .before .before .before .before .before .before .before .before .pre .room, c .before .before .loop-test .taken)
 
 slice-write-class : tie.Need-slice-write-class Inv-loop μ-loop
-slice-write-class c = omega (arith, c .before .before .before .before .before .before .before .before .pre .room, c .before .before .loop-test .taken, c .before .before .before .loop .inv .outside .long)
+slice-write-class c = omega (arith, c .before .before .before .before .before .before .before .before .before .pre .room, c .before .before .loop-test .taken, c .before .before .before .loop .inv .outside .long)
 
 add-flex : tie.Need-add-flex Inv-loop μ-loop
-add-flex c = omega (arith, c .before .before .before .before .before .before .before .before .pre .room, c .before .before .loop-test .taken, c .before .before .before .loop .inv .some, marking-small _ _ _ _ _ _ _ (c .before .before .before .before .before .before .before .before .pre) _ (c .before .before .loop-test .taken) _ (c .flex-mark .ensures))
+add-flex c = omega (arith, c .before .before .before .before .before .before .before .before .before .pre .room, c .before .before .loop-test .taken, c .before .before .before .loop .inv .some, marking-small _ _ _ _ _ _ _ (c .before .before .before .before .before .before .before .before .before .pre) _ (c .before .before .loop-test .taken) _ (rw (c .before .before .before .before .before .numbers-at .ensures) at (c .flex-mark .ensures)))
 
 loop-again : tie.Need-loop-again Inv-loop μ-loop
-loop-again c = marked-more _ _ _ _ _ _ _ (c .before .before .before .before .before .before .before .before .pre) _ (c .before .before .loop-test .taken) _ _ _ (c .flex-mark .ensures) (c .before .before .before .loop .inv)
+loop-again c = marked-more _ _ _ _ _ _ _ (c .before .before .before .before .before .before .before .before .before .pre) _ (c .before .before .loop-test .taken) _ _ _ (rw (c .before .before .before .before .before .numbers-at .ensures) at (c .flex-mark .ensures)) (c .before .before .before .loop .inv)
 
 same-length : tie.Need-same-length Inv-loop μ-loop
 same-length c = c .before .loop .inv .outside .long
@@ -48,13 +48,12 @@ put-flexes-spec =
     (tie.spec
     Inv-loop
     μ-loop
-    (λ c. search needs)
-    (λ c. search needs)
+    (λ c κs. search needs)
     (λ c. search needs)
     loop-holds
-    add-t17
+    add-t15
     (λ c. search needs)
-    shared-slice-read-t20
+    shared-slice-read-t18
     flex-mark-requires
     add-class
     (λ c. search needs)
