@@ -52,10 +52,10 @@ pub fn copies_at(cells: &[u32]) -> usize
     11 * cells.len() + 7
 }
 
-// The end of the table.
-pub fn copies_end(cells: &[u32]) -> usize
-    requires { ⌜ copiesEnd (length (now cells)) < 18446744073709551616 ⌝ }
-    ensures { λ r. ⌜ r ≡ copiesEnd (length (now (cells .entry))) ⌝ }
+// The end of the table for `n` cells.
+pub fn copies_end(n: usize) -> usize
+    requires { ⌜ copiesEnd n < 18446744073709551616 ⌝ }
+    ensures { λ r. ⌜ r ≡ copiesEnd n ⌝ }
 {
-    12 * cells.len() + 7
+    12 * n + 7
 }

@@ -4,6 +4,8 @@ use base::id::Node;
 use base::id::Pattern;
 use buffer::zero::zero_words;
 use graph::graph::Graph;
+use graph::places::colours_at;
+use graph::places::pairs_at;
 ghost use Prim.Native.Nat.{_+_, _<_, _≤_};
 ghost use lib.ListN.{length};
 ghost use Rattle.graph.specs.Inner.{HoldsInner};
@@ -39,15 +41,14 @@ fn enter(g: Graph, cells: &[u32], table: &mut [u32], top: usize, y: Node) -> usi
     requires { ⌜ Entering (now cells) (now table) g top (y .0) ⌝ }
     ensures { λ r. ⌜ EntersIn (now (cells .entry)) (now (table .entry)) (now (table .exit)) g top (y .0) r ⌝ }
 {
-    let n = cells.len();
-    let colours = 7 * n + 7;
+    let colours = colours_at(cells);
     let i = y.0 as usize;
     if g.head(cells, table, y) == Pattern::VAR {
         table[colours + i] = Colour::DONE;
         return top;
     }
     table[colours + i] = Colour::OPEN;
-    let at = 5 * n + 5 + 2 * top;
+    let at = pairs_at(cells) + 2 * top;
     table[at] = y.0;
     table[at + 1] = 0;
     top + 1
@@ -60,8 +61,7 @@ fn look(g: Graph, cells: &[u32], table: &mut [u32], top: usize, x: Node, i: usiz
 {
     let argument = g.argument(cells, table, x, i);
     let y = g.find(cells, table, argument);
-    let n = cells.len();
-    let colours = 7 * n + 7;
+    let colours = colours_at(cells);
     let seen = table[colours + y.0 as usize];
     if seen == Colour::DONE {
         return Seen::Ends;
@@ -69,7 +69,7 @@ fn look(g: Graph, cells: &[u32], table: &mut [u32], top: usize, x: Node, i: usiz
     if seen != Colour::UNSEEN {
         return Seen::Circle;
     }
-    let at = 5 * n + 5 + 2 * top;
+    let at = pairs_at(cells) + 2 * top;
     table[at + 1] = i as u32 + 1;
     if enter(g, cells, table, top + 1, y) == top + 1 {
         return Seen::Ends;
@@ -82,7 +82,7 @@ fn advance(g: Graph, cells: &[u32], table: &mut [u32], top: usize) -> Turn
     requires { ⌜ WalkingIn (now cells) (now table) g (top + 1) ⌝ }
     ensures { λ r. ⌜ AdvancesIn (now (cells .entry)) (now (table .entry)) (now (table .exit)) g top r ⌝ }
 {
-    let at = 5 * cells.len() + 5 + 2 * top;
+    let at = pairs_at(cells) + 2 * top;
     let x = Node(table[at]);
     let n = g.arity(cells, table, x);
     let mut i = table[at + 1] as usize;
@@ -99,7 +99,7 @@ fn advance(g: Graph, cells: &[u32], table: &mut [u32], top: usize) -> Turn
             }
         }
     }
-    let colours = 7 * cells.len() + 7;
+    let colours = colours_at(cells);
     table[colours + x.0 as usize] = Colour::DONE;
     Turn::On(top)
 }
@@ -129,7 +129,7 @@ fn walk(g: Graph, cells: &[u32], table: &mut [u32], x: Node) -> bool
     ensures { λ r. ⌜ WalksIn (now (cells .entry)) (now (table .entry)) (now (table .exit)) g (x .0) r ⌝ }
 {
     let root = g.find(cells, table, x);
-    let colours = 7 * cells.len() + 7;
+    let colours = colours_at(cells);
     if table[colours + root.0 as usize] != Colour::UNSEEN {
         return false;
     }
@@ -143,7 +143,7 @@ pub fn circular(g: Graph, cells: &[u32], table: &mut [u32]) -> bool
     ensures { λ r. ⌜ TellsIn (now (cells .entry)) (now (table .entry)) (now (table .exit)) g r ⌝ }
 {
     let n = g.nodes;
-    let colours = 7 * cells.len() + 7;
+    let colours = colours_at(cells);
     zero_words(&mut table[colours..colours + n]);
     let mut x: usize = 0;
     while x < n {

@@ -1,6 +1,7 @@
 // The pairs that unification still has to take.
 use base::id::Node;
 use graph::graph::Graph;
+use graph::places::pairs_at;
 ghost use mathlib.Core.Path.{_≡_};
 ghost use Prim.Native.Nat.{_+_, _*_, _≤_, _<_, min};
 ghost use lib.ListN.{length};
@@ -37,7 +38,7 @@ pub fn top_pair(cells: &[u32], table: &[u32], top: usize) -> Pairs
             right: Node(0),
         };
     }
-    let at = 5 * cells.len() + 5 + 2 * (top - 1);
+    let at = pairs_at(cells) + 2 * (top - 1);
     Pairs {
         top: top,
         left: Node(table[at]),
@@ -53,7 +54,7 @@ pub fn push_pairs(g: Graph, cells: &[u32], table: &mut [u32], top: usize, x: Nod
     let a = g.arity(cells, table, x);
     let b = g.arity(cells, table, y);
     let n = least(a, b);
-    let rows = 5 * cells.len() + 5;
+    let rows = pairs_at(cells);
     let mut left = Node(0);
     let mut right = Node(0);
     let mut i: usize = 0;

@@ -4,6 +4,7 @@ use crate::meet::meet;
 use crate::pairs::Pairs;
 use base::id::Node;
 use graph::graph::Graph;
+use graph::places::pairs_at;
 ghost use mathlib.Core.Path.{_≡_};
 ghost use Prim.Native.Nat.{_<_, _≤_};
 ghost use lib.ListN.{length};
@@ -32,7 +33,7 @@ pub fn unify(g: Graph, cells: &[u32], table: &mut [u32], x: Node, y: Node) -> Ou
     requires { ⌜ HoldsInner (now cells) (now table) g × (x .0 < g .nodes) × (y .0 < g .nodes) × (pairsEnd (now cells) ≤ length (now table)) ⌝ }
     ensures { λ r. ⌜ Unifies (now (cells .entry)) (now (table .entry)) (now (table .exit)) g (x .0) (y .0) r ⌝ }
 {
-    let rows = 5 * cells.len() + 5;
+    let rows = pairs_at(cells);
     table[rows] = x.0;
     table[rows + 1] = y.0;
     let mut p = Pairs {

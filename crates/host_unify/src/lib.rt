@@ -5,6 +5,7 @@ use base::limit::Limit;
 use buffer::zero::zero_words;
 use graph::graph::Graph;
 use graph::graph::Pushed;
+use graph::places::values_at;
 use graph_unify::circle::circular;
 use graph_unify::unify::Outcome;
 use graph_unify::unify::unify;
@@ -42,13 +43,13 @@ enum Read {
 }
 
 // Whether the lengths do not fit each other.
-fn lengths_unfit(cells: usize, work: usize) -> bool
-    ensures { λ r. ⌜ r ≡ unfit cells work ⌝ }
+fn lengths_unfit(cells: &[u32], work: usize) -> bool
+    ensures { λ r. ⌜ r ≡ unfit (length (now (cells .entry))) work ⌝ }
 {
-    if Limit::CELLS <= cells {
+    if Limit::CELLS <= cells.len() {
         return true;
     }
-    work < 8 * cells + 7
+    work < values_at(cells)
 }
 
 // Whether each argument is among `n` earlier nodes.
@@ -265,7 +266,7 @@ fn solve_list(
     requires { ⌜ now roots ≡ replicate (length (now roots)) 0 ⌝ }
     ensures { λ r. ⌜ _≡_ {A = Told} (record { answer = r; roots = now (roots .exit) }) (solved (now (terms .entry)) x y stage (length (now (roots .entry))) (length (now (cells .entry))) (length (now (work .entry)))) ⌝ }
 {
-    if lengths_unfit(cells.len(), work.len()) {
+    if lengths_unfit(cells, work.len()) {
         return refusal(3);
     }
     match read_nodes(terms, cells, work) {

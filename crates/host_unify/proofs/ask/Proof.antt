@@ -39,6 +39,6 @@ ask-spec =
     cast-t15
     cast-t17
     solve-requires
-    (λ c. search needs)
-    (λ c. search needs)
+    (λ c. search)
+    (λ c. search)
     returns-4)

@@ -34,15 +34,15 @@ solve-spec =
     tie.close
     (tie.spec
     (λ c κs. search needs)
-    (λ c. search needs)
-    (λ c. search needs)
+    (λ c. search)
+    (λ c. search)
     returns
     unify-requires
     (λ c. search needs)
     tell-joined-requires
     (λ c. search needs)
-    (λ c. search needs)
-    (λ c. search needs)
+    (λ c. search)
+    (λ c. search)
     returns-2
-    (λ c. search needs)
+    (λ c. search)
     returns-3)

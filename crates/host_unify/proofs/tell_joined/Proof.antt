@@ -22,6 +22,6 @@ tell-joined-spec =
     (λ c κs. search needs)
     write-roots-requires
     (λ c κs. search needs)
-    (λ c. search needs)
-    (λ c. search needs)
+    (λ c. search)
+    (λ c. search)
     returns-2)

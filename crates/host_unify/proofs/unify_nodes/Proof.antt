@@ -25,5 +25,5 @@ unify-nodes-spec =
     (λ c κs. search needs)
     (λ c. search needs)
     (λ c. search needs)
-    (λ c. search needs)
+    (λ c. search)
     returns)

@@ -49,25 +49,25 @@ meet-spec =
     tie.close
     (tie.spec
     top-pair-requires
-    (λ c. search needs)
+    (λ c. search)
     returns
     (λ c κs. search needs)
     (λ c κs. search needs)
     top-pair-requires-2
-    (λ c. search needs)
+    (λ c. search)
     returns-2
     (λ c κs. search needs)
     (λ c κs. search needs)
     top-pair-requires-3
-    (λ c. search needs)
+    (λ c. search)
     returns-3
     (λ c κs. search needs)
-    (λ c. search needs)
+    (λ c. search)
     returns-4
     (λ c κs. search needs)
-    (λ c. search needs)
+    (λ c. search)
     returns-5
     (λ c κs. search needs)
     join-requires
-    (λ c. search needs)
+    (λ c. search)
     returns-6)

@@ -11,11 +11,11 @@ returns : tie.Need-returns
 returns c = (sym (c .if1 .taken), λ t e. absurd (omega (arith, e)))
 
 returns-2 : tie.Need-returns-2
-returns-2 c = (
+returns-2 c = rw (c .before .before .pairs-at .ensures) (
   refl,
   λ t e.
-      let q : c .before .before .before .args .top - 1 ≡ t = omega (arith, e) in
-      (ap (leftWord (c .before .before .before .args .cells .now) (c .before .before .before .args .table .now)) q, ap (rightWord (c .before .before .before .args .cells .now) (c .before .before .before .args .table .now)) q),
+      let q : c .before .before .before .before .before .before .args .top - 1 ≡ t = omega (arith, e) in
+      (ap (leftWord (c .before .before .before .before .before .before .args .cells .now) (c .before .before .before .before .before .before .args .table .now)) q, ap (rightWord (c .before .before .before .before .before .before .args .cells .now) (c .before .before .before .before .before .before .args .table .now)) q),
 )
 
 pub top-pair-spec : {M : Type 1} → statement M
@@ -23,8 +23,7 @@ top-pair-spec =
     tie.close
     (tie.spec
     returns
-    (λ c. search needs)
-    (λ c. search needs)
+    (λ c κs. search needs)
     (λ c. search needs)
     (λ c. search needs)
     (λ c. search needs)

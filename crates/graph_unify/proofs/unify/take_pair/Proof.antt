@@ -29,5 +29,5 @@ take-pair-spec =
     find-requires
     find-requires-2
     meet-requires
-    (λ c. search needs)
+    (λ c. search)
     returns)

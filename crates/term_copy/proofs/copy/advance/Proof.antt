@@ -86,7 +86,7 @@ advance-spec =
     mul-at
     add-at
     passes-requires
-    (λ c. search needs)
+    (λ c. search)
     returns
     mul-t16
     slice-read-t21

@@ -37,6 +37,6 @@ copy-application-spec =
     (λ c. search needs)
     (λ c. search needs)
     push-requires
-    (λ c. search needs)
-    (λ c. search needs)
+    (λ c. search)
+    (λ c. search)
     returns)

@@ -29,6 +29,6 @@ copy-variable-spec =
     (λ c. search needs)
     (λ c. search needs)
     var-requires
-    (λ c. search needs)
-    (λ c. search needs)
+    (λ c. search)
+    (λ c. search)
     returns)

@@ -73,10 +73,10 @@ give-spec =
     (λ c. search needs)
     head-requires
     put-value-requires
-    (λ c. search needs)
+    (λ c. search)
     returns
     node-head-requires
-    (λ c. search needs)
+    (λ c. search)
     returns-2
     (λ c. search needs)
     (λ c. search needs)
@@ -84,9 +84,9 @@ give-spec =
     (λ c. search needs)
     arity-requires
     node-arity-requires
-    (λ c. search needs)
+    (λ c. search)
     returns-3
     put-value-requires-2
     push-arguments-requires
-    (λ c. search needs)
+    (λ c. search)
     returns-4)

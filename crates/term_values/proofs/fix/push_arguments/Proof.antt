@@ -64,5 +64,5 @@ push-arguments-spec =
     (λ c. search needs)
     (λ c. search needs)
     loop-again
-    (λ c. search needs)
+    (λ c. search)
     returns)

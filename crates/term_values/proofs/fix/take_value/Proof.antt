@@ -83,11 +83,11 @@ take-value-spec =
     root-requires
     value-requires
     (λ c. search needs)
-    (λ c. search needs)
+    (λ c. search)
     returns
-    (λ c. search needs)
+    (λ c. search)
     returns-2
     (λ c. search needs)
     give-requires
-    (λ c. search needs)
+    (λ c. search)
     returns-3)

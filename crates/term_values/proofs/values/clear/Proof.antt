@@ -26,5 +26,5 @@ clear-spec =
     (λ c. search needs)
     part-zero-words-end
     (λ c κs. search needs)
-    (λ c. search needs)
+    (λ c. search)
     returns)
