@@ -4,7 +4,7 @@ use mathlib.Core.Path.{_∙_}
 use Prim.Native.Nat.{_+_, _*_, _-_}
 use native.Mathlib.Omega.{arith}
 use lib.ListN.{length-set}
-use Rattle.graph.specs.Cells.{rowsEnd, unchanged-same, unchanged-then}
+use Rattle.graph.specs.Cells.{unchanged-same, unchanged-then}
 use Rattle.graph_unify.specs.Circles.{Steppings, stepping-ready, stepping-ends, stepping-deeper, stepping-circle, walking-here, walking-laid}
 use Rattle.graph_unify.specs.CircleWords.{pathIn, colourIn, Beyond}
 use Rattle.graph_unify.specs.CircleTurns.{walking-low, node-there, node-inside, advance-first, advance-done}

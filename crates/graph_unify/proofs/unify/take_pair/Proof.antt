@@ -1,5 +1,4 @@
 -- `take_pair` meets its contract.
-use borrow.Author.Needs.{needs}
 use native.Mathlib.Omega.{arith}
 use Rattle.graph_unify.specs.Unifies.{pair-left, pair-right, both-held, left-root, right-root, turn-room, turn-says, found-as}
 use Rattle.graph_unify.proofs.unify.take_pair.Statement.{statement}

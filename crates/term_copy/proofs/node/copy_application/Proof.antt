@@ -1,6 +1,5 @@
 -- `copy_application` meets its contract.
 use borrow.Author.Needs.{needs}
-use native.Mathlib.Omega.{arith}
 use Rattle.term_copy.specs.Nodes.{application-made}
 use Rattle.base.specs.Part.{part}
 use Prim.Native.Nat.{_-_}

@@ -1,6 +1,5 @@
 -- `copy_variable` meets its contract.
 use borrow.Author.Needs.{needs}
-use native.Mathlib.Omega.{arith}
 use Rattle.term_copy.specs.Nodes.{variable-made}
 use Rattle.base.specs.Part.{part}
 use Rattle.term_copy.proofs.node.copy_variable.Statement.{statement}
