@@ -30,13 +30,14 @@ pub fn layout(work: &[u32], words: &[u32], cells: &[u32], k: Keying, nodes: usiz
     ensures { λ r. ⌜ Places (now (work .entry)) (now (words .entry)) (now (cells .entry)) k nodes r ⌝ }
 {
     let room = words.len() / 2;
+    let n = cells.len();
     let rows = k.at + (Keying::END * k.cap + 1);
     let lifted = rows + k.cap;
     let index = lifted + Lifted::NODE * nodes;
     let copied = index + (Store::INDEX * room + 1);
     let walk = copied + Memo::ENTRY * room;
     let variables = walk + 2 * room;
-    let graph = variables + (cells.len() + Limit::ARITY);
+    let graph = variables + (n + Limit::ARITY);
     Layout {
         rows: rows,
         lifted: lifted,
@@ -45,6 +46,6 @@ pub fn layout(work: &[u32], words: &[u32], cells: &[u32], k: Keying, nodes: usiz
         walk: walk,
         variables: variables,
         graph: graph,
-        end: graph + copies_end(cells),
+        end: graph + copies_end(n),
     }
 }
