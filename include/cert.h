@@ -49,11 +49,16 @@ enum { CERT_CLASSES = 1, CERT_PATTERN, CERT_GRAPH, CERT_WORK };
 /* In pattern words, for a head: the node is a variable. */
 #define CERT_VARIABLE UINT32_C(0xFFFFFFFE)
 
+/* Words of work: so many for each pattern word, graph cell and byte of the pack, and
+ * so many more. */
+#define CERT_WORK_SHARE ((size_t)16)
+#define CERT_WORK_MORE ((size_t)1024)
+
 /* The least work that a call asks for with these lengths, none above its limit; 0 for a
  * buffer that the call isn't lent. */
 static inline size_t cert_least_work(size_t pattern_len, size_t graph_len, size_t pack_len)
 {
-    return 16 * (pattern_len + graph_len + pack_len) + 1024;
+    return CERT_WORK_SHARE * (pattern_len + graph_len + pack_len) + CERT_WORK_MORE;
 }
 
 /* The number of an answer, and its place. 0 at 0: done. */

@@ -16,6 +16,7 @@ use definition::Refusal;
 use pack_tables::catalog::Catalog;
 ghost use Prim.Native.Nat.{_<_};
 ghost use lib.ListN.{length};
+ghost use Rattle.definition.specs.Store.{nothing};
 ghost use Rattle.class_build.specs.Ready.{Opened};
 ghost use Rattle.class_premises.specs.Buffers.{lent};
 ghost use Rattle.class_build.specs.Build.{TestingIn, EndsIn, BeginningIn, GoesIn, Builds};
@@ -90,7 +91,7 @@ pub fn build(
     cells: &mut [u32],
     c: Catalog,
 ) -> Answer
-    requires { ⌜ Opened (now pack) (now work) (now words) (now cells) c × (length (now class) < 4294967296) × (length (now cells) < 4294967295) ⌝ }
+    requires { ⌜ Opened (now pack) (now work) (now words) (now cells) c × (length (now class) < 4294967296) × (length (now cells) < nothing) ⌝ }
     ensures { λ s. ⌜ Builds (now (pack .entry)) (now (work .entry)) (now (class .entry)) (now (words .entry)) (now (cells .entry)) (now (class .exit)) (now (words .exit)) c s ⌝ }
 {
     match make_ready(pack, work, class, words, cells, c) {

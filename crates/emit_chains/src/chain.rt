@@ -3,6 +3,7 @@ use buffer::zero::zero_words;
 ghost use mathlib.Core.Path.{_≡_};
 ghost use Prim.Native.Nat.{_+_, _<_};
 ghost use lib.ListN.{getD, set, replicate};
+ghost use Rattle.definition.specs.Store.{nothing};
 ghost use Rattle.base.specs.Outside.{Outside};
 ghost use Rattle.emit_chains.specs.Chain.{Put};
 ghost use Rattle.emit_chains.specs.Places.{firsts, links, Within};
@@ -32,7 +33,7 @@ pub fn clear_chains(work: &mut [u32], chains: Chains)
 
 // Number `i` becomes the first of the chain of `key`. What stands between the first words and the links is left open.
 pub fn put_first(work: &mut [u32], chains: Chains, key: usize, i: usize)
-    requires { ⌜ Within (now work) chains × (key < chains .keys) × (i < chains .items) × (i < 4294967295) ⌝ }
+    requires { ⌜ Within (now work) chains × (key < chains .keys) × (i < chains .items) × (i < nothing) ⌝ }
     ensures first { λ _. ⌜ firsts (now (work .exit)) chains ≡ set (firsts (now (work .entry)) chains) key (i + 1) ⌝ }
     ensures link { λ _. ⌜ links (now (work .exit)) chains ≡ set (links (now (work .entry)) chains) i (getD (firsts (now (work .entry)) chains) key 0) ⌝ }
     ensures frame { λ _. ⌜ Outside (chains .first) (chains .next + chains .items) (now (work .entry)) (now (work .exit)) ⌝ }
@@ -45,7 +46,7 @@ pub fn put_first(work: &mut [u32], chains: Chains, key: usize, i: usize)
 
 // The same for any key, with the same left open: one without a chain changes no chain.
 pub fn put_keyed(work: &mut [u32], chains: Chains, key: usize, i: usize)
-    requires { ⌜ Within (now work) chains × (i < chains .items) × (i < 4294967295) ⌝ }
+    requires { ⌜ Within (now work) chains × (i < chains .items) × (i < nothing) ⌝ }
     ensures put { λ _. ⌜ Put (firsts (now (work .entry)) chains) (links (now (work .entry)) chains) key i (firsts (now (work .exit)) chains) (links (now (work .exit)) chains) ⌝ }
     ensures frame { λ _. ⌜ Outside (chains .first) (chains .next + chains .items) (now (work .entry)) (now (work .exit)) ⌝ }
 {

@@ -1,4 +1,5 @@
 // Interns a list of nodes, for the host's test and benchmark of the store.
+use base::id::Pattern;
 use buffer::zero::zero_words;
 use buffer::zero::zero_words_from;
 use store::nodes::Interned;
@@ -35,7 +36,7 @@ enum Run {
 fn lengths_unfit(index: usize, words: usize) -> bool
     ensures { λ r. ⌜ r ≡ unfit index words ⌝ }
 {
-    if 4294967295 <= words {
+    if Pattern::NONE as usize <= words {
         return true;
     }
     index < Store::INDEX * (words / 2) + 1

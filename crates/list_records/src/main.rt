@@ -120,7 +120,7 @@ pub fn list(pack: &[u8], text: &mut [u8]) -> Put
 fn main() {
     let mut pack = io::large_buffer();
     let n = io::read_full(0, &mut pack);
-    if 4096 < n {
+    if pack.len() < n {
         io::write_all(1, b"too long\n");
         return;
     }

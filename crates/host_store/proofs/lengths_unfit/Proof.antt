@@ -12,4 +12,4 @@ returns-2 : tie.Need-returns-2
 returns-2 c = let a = c .before .args in sym (unfit-index (a .index) (a .words) (c .if1 .left))
 
 pub lengths-unfit-spec : {M : Type 1} → statement M
-lengths-unfit-spec = tie.close (tie.spec returns (λ c. search needs) (λ c. search needs) returns-2)
+lengths-unfit-spec = tie.close (tie.spec (λ c. search needs) returns (λ c. search needs) (λ c. search needs) returns-2)
