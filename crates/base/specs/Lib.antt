@@ -8,4 +8,5 @@ pub mod Listed
 pub mod Hash
 pub mod Probe
 pub mod Stack
+pub mod Pairs
 pub mod Same

@@ -11,6 +11,20 @@ pub struct Stack {
     pub len: usize,
 }
 
+// What a walk puts on its stack, or a worklist in its list: two words, of which the second says how many arguments were taken, or is the
+// other of a pair.
+pub struct Frame(pub usize);
+
+impl Frame {
+    pub const WORDS: usize = 2;
+
+    pub const TAKEN: usize = 1;
+
+    pub const SECOND: usize = 1;
+    // The frame above it.
+    pub const NEXT_TAKEN: usize = 3;
+}
+
 // A word taken off, and what is left; or that there was none.
 pub enum Popped {
     Word(u32, Stack),

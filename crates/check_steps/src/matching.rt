@@ -13,7 +13,7 @@ use pack_tables::catalog::Catalog;
 ghost use mathlib.Core.Path.{_≡_};
 ghost use mathlib.Core.List.{[]};
 ghost use lib.ListN.{length};
-ghost use Rattle.definition.specs.Pack.{ruleOf};
+ghost use Rattle.definition.specs.Pack.{ruleOf, mostVariables};
 ghost use Rattle.definition.specs.Verdict.{matched};
 ghost use Rattle.base.specs.Stack.{stacked};
 ghost use Rattle.pack_read.specs.Reads.{ruleWords};
@@ -72,7 +72,7 @@ pub fn rule_matches(
     values: &mut [u32],
     s: Stack,
 ) -> bool
-    requires { ⌜ ((H : Held (now pack) (now work) c) × Ready (H .pack) r (now stack) s × (length (now values) ≡ 64)) ⌝ }
+    requires { ⌜ ((H : Held (now pack) (now work) c) × Ready (H .pack) r (now stack) s × (length (now values) ≡ mostVariables)) ⌝ }
     ensures { λ b. ⌜ OfHeld (now (pack .entry)) (now (work .entry)) c (λ P. Ready P r (now (stack .entry)) s → b ≡ matched (matchWords P (ruleWords (ruleOf P r)) (stacked 0 (s .len) (now (stack .entry))) [])) ⌝ }
 {
     let vars = rule_vars(pack, work, c, r);

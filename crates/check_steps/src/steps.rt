@@ -8,7 +8,7 @@ use pack_tables::catalog::Catalog;
 ghost use mathlib.Core.Path.{_≡_};
 ghost use Prim.Native.Nat.{_<_};
 ghost use lib.ListN.{length};
-ghost use Rattle.definition.specs.Pack.{stepOf};
+ghost use Rattle.definition.specs.Pack.{stepOf, mostVariables, mostWords};
 ghost use Rattle.definition.specs.Verdict.{passes, firstFailing};
 ghost use Rattle.pack_read.specs.Held.{Held, OfHeld};
 ghost use Rattle.check_steps.specs.First.{failingOf};
@@ -22,7 +22,7 @@ fn step_passes(
     stack: &mut [u32],
     values: &mut [u32],
 ) -> bool
-    requires { ⌜ ((H : Held (now pack) (now work) c) × (i < length (H .pack .steps)) × (length (now stack) ≡ 256) × (length (now values) ≡ 64)) ⌝ }
+    requires { ⌜ ((H : Held (now pack) (now work) c) × (i < length (H .pack .steps)) × (length (now stack) ≡ mostWords) × (length (now values) ≡ mostVariables)) ⌝ }
     ensures { λ r. ⌜ OfHeld (now (pack .entry)) (now (work .entry)) c (λ P. r ≡ passes P (stepOf P i)) ⌝ }
 {
     let on = push_judgments(pack, work, c, stack, i);

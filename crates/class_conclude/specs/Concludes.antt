@@ -49,7 +49,7 @@ use Rattle.class_premises.specs.Joins.{copiesIn}
 use Rattle.class_premises.specs.Meets.{instantiate-longer}
 use Rattle.class_premises.specs.declared.layout.Layout.{Layout}
 use Rattle.term_readback.specs.Words.{valuesAt, numbersAt, Framed}
-use Rattle.term_readback.specs.Kept.{lifts-on}
+use Rattle.term_lift.specs.Kept.{lifts-on}
 use Rattle.class_premises.specs.Standing.{liftedOf}
 use Rattle.theory.specs.Making.Circles.{Instance, instance}
 use Rattle.theory.specs.Making.FewArgs.{FewArgs, few-instance}

@@ -32,7 +32,7 @@ use Rattle.class_premises.specs.Joins.{copiesIn}
 use Rattle.class_premises.specs.declared.layout.Layout.{Layout}
 use Rattle.term_readback.specs.Words.{Holding, Ready, Framed}
 use Rattle.term_readback.specs.Moved.{framed-none, framed-then}
-use Rattle.term_readback.specs.Kept.{Indexed}
+use Rattle.term_lift.specs.Kept.{Indexed}
 use Rattle.term_readback.specs.Stacks.{Answers}
 use Rattle.term_readback.specs.declared.table.Table.{Table}
 use Rattle.term_readback.specs.declared.root.Resolved.the-variants as read

@@ -33,7 +33,7 @@ use Rattle.class_premises.specs.Layout.{tableIn, Laid}
 use Rattle.class_premises.specs.Joins.{copiesIn, rows-outside}
 use Rattle.class_premises.specs.declared.layout.Layout.{Layout}
 use Rattle.term_readback.specs.Words.{valuesAt, tableEnd, Lies, Framed}
-use Rattle.term_readback.specs.Kept.{lifts-on}
+use Rattle.term_lift.specs.Kept.{lifts-on}
 use Rattle.term_readback.specs.Stacks.{Clears}
 use Rattle.class_premises.specs.Standing.{liftedOf}
 use Rattle.theory.specs.Making.FewArgs.{FewArgs}

@@ -18,7 +18,7 @@ ghost use Rattle.definition.specs.Pack.{noNode};
 ghost use Rattle.definition.specs.Store.{isVariable};
 ghost use Rattle.definition.specs.Classes.{mark};
 ghost use Rattle.store.specs.Stored.{nodes};
-ghost use Rattle.term_readback.specs.Kept.{Indexed};
+ghost use Rattle.term_lift.specs.Kept.{Indexed};
 ghost use Rattle.class_premises.specs.Standing.{liftedOf};
 ghost use Rattle.class_conclude.specs.Entries.{OneAsked, OneReads, AllAsked, AllReads};
 

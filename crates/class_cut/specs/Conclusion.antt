@@ -20,7 +20,7 @@ use Rattle.pack_read.specs.Held.{OfHeld}
 use Rattle.term_lift.specs.Lifts.{Lifts, Apart}
 use Rattle.term_lift.specs.Runs.{written-again, words-grow}
 use Rattle.term_lift.specs.declared.lift.Lifted.{Lifted}
-use Rattle.term_readback.specs.Kept.{Interns}
+use Rattle.term_lift.specs.Kept.{Interns}
 use Rattle.theory.specs.Making.Interns.{cutTop}
 use Rattle.class_cut.specs.Fresh.{variablesOf, Freshened, Unfreshened}
 

@@ -28,7 +28,7 @@ use Rattle.term_lift.specs.Lifts.{Lifts, Apart}
 use Rattle.term_lift.specs.Nodes.{laid-same}
 use Rattle.term_lift.specs.Runs.{written-again, words-grow}
 use Rattle.term_lift.specs.declared.lift.Lifted.{Lifted}
-use Rattle.term_readback.specs.Kept.{Indexed, Interns}
+use Rattle.term_lift.specs.Kept.{Indexed, Interns}
 use Rattle.theory.specs.Making.Interns.{fresh-grows}
 use Rattle.class_cut.specs.declared.conclusion.Fresh.{Fresh}
 use Rattle.class_cut.specs.declared.conclusion.Fresh.the-variants as fresh

@@ -6,15 +6,15 @@ use pack_read::symbol::symbol_input;
 use pack_tables::catalog::Catalog;
 use store::nodes::Interned;
 use store::nodes::Store;
+use term_lift::intern::intern_key;
 use term_lift::lift::Lifted;
-use term_readback::table::intern_key;
 ghost use mathlib.Core.List.{[], _∷_};
 ghost use Prim.Native.Nat.{_<_};
 ghost use lib.ListN.{length};
 ghost use Rattle.definition.specs.Store.{variableHead};
 ghost use Rattle.pack_tables.specs.Catalog.{recordsOf};
 ghost use Rattle.term_lift.specs.Lifts.{Lifts};
-ghost use Rattle.term_readback.specs.Kept.{Indexed, Interns};
+ghost use Rattle.term_lift.specs.Kept.{Indexed, Interns};
 ghost use Rattle.class_cut.specs.Fresh.{Starts, Freshens};
 ghost use Rattle.class_cut.specs.Conclusion.{Concludes};
 

@@ -5,6 +5,7 @@ use class_premises::building::Building;
 use class_premises::building::ClassMade;
 use class_premises::building::Counted;
 use class_premises::building::go_on;
+use class_premises::row::Row;
 use definition::Buffer;
 use definition::Refusal;
 use pack_read::symbol::symbol_arity;
@@ -33,11 +34,14 @@ pub fn make_cut(
     match cut_conclusion(pack, work, words, s.catalog, lifted, s.store, p) {
         Interned::Id(q, more) => {
             let n = symbol_arity(pack, work, s.catalog, p as usize);
-            if class.len() - s.fill < 3 + n {
+            if class.len() - s.fill < Row::MARKS + n {
                 return ClassMade::Refused(Refusal::Short(Buffer::CLASS));
             }
             write_cut(work, class, s, i, q, n);
-            ClassMade::Made(go_on(s, more, s.memo, s.fill + 3 + n), Counted::NONE)
+            ClassMade::Made(
+                go_on(s, more, s.memo, s.fill + Row::MARKS + n),
+                Counted::NONE,
+            )
         }
         Interned::Short => ClassMade::Refused(Refusal::Short(Buffer::PATTERN)),
     }

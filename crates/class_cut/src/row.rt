@@ -2,6 +2,7 @@
 use base::id::Pattern;
 use class_keys::classes::class_count;
 use class_premises::building::Building;
+use class_premises::row::Row;
 use class_premises::row::begin_row;
 ghost use Prim.Native.Nat.{_+_, _≤_};
 ghost use lib.ListN.{length};
@@ -33,5 +34,5 @@ pub fn write_cut(
 {
     let count = class_count(work, s.keying, i);
     begin_row(work, class, s.layout, s.fill, i, conclusion, count, n);
-    put_marks(class, s.fill + 3, n);
+    put_marks(class, s.fill + Row::MARKS, n);
 }

@@ -3,6 +3,7 @@ ghost use mathlib.Core.Path.{_≡_};
 ghost use Prim.Native.Nat.{_+_, _*_, _<_, _≤_};
 ghost use lib.ListN.{length};
 ghost use Rattle.class_keys.specs.ClassWords.{firstIn, countIn, slotsAt, joined, begun};
+ghost use Rattle.definition.specs.Store.{nothing};
 
 // A class's number.
 pub struct Class(pub u32);
@@ -28,6 +29,12 @@ impl Keying {
     pub const SLOTS: usize = 3;
 
     pub const END: usize = 6;
+    // So many hashes and slots a step, and one more.
+    pub const HASHES: usize = 2;
+
+    pub const PROBES: usize = 3;
+    // A key's words ahead of its refs' classes: a mark and the rule.
+    pub const REFS: usize = 2;
 }
 
 // How many classes there are, and how many needed steps.
@@ -56,7 +63,7 @@ pub fn class_count(work: &[u32], k: Keying, i: usize) -> usize
 
 // It has one step more.
 pub fn join_class(work: &mut [u32], k: Keying, i: usize)
-    requires { ⌜ (k .at + 2 * k .cap + i < length (now work)) × (countIn (now work) k i < 4294967295) ⌝ }
+    requires { ⌜ (k .at + 2 * k .cap + i < length (now work)) × (countIn (now work) k i < nothing) ⌝ }
     ensures { λ _. ⌜ now (work .exit) ≡ joined (now (work .entry)) k i ⌝ }
 {
     let p = k.at + Keying::COUNTS * k.cap + i;
@@ -65,7 +72,7 @@ pub fn join_class(work: &mut [u32], k: Keying, i: usize)
 
 // Class `m` begins with step `s`, and slot `t` holds it.
 pub fn begin_class(work: &mut [u32], k: Keying, m: usize, t: usize, s: usize)
-    requires { ⌜ (m ≤ k .cap) × (slotsAt k + t < length (now work)) × (m < 4294967295) × (s < 4294967296) ⌝ }
+    requires { ⌜ (m ≤ k .cap) × (slotsAt k + t < length (now work)) × (m < nothing) × (s < 4294967296) ⌝ }
     ensures { λ _. ⌜ now (work .exit) ≡ begun (now (work .entry)) k m t s ⌝ }
 {
     let p = k.at + k.cap + m;

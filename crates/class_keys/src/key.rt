@@ -1,4 +1,5 @@
 // The key of a step, word by word: 0 and the predicate if it is cut, else 1, the rule, and the classes of its refs.
+use crate::classes::Keying;
 use crate::cut::step_is_cut;
 use crate::cut::step_predicate;
 use crate::firsts::first_of;
@@ -9,6 +10,8 @@ use pack_tables::catalog::Catalog;
 ghost use mathlib.Core.Path.{_≡_};
 ghost use Rattle.class_keys.specs.Writing.{Asked, Written, WrittenRule};
 ghost use lib.ListN.{length};
+ghost use Rattle.definition.specs.Pack.{mostPremises};
+ghost use Prim.Native.Nat.{_+_};
 
 // The key of step `s`, which is not cut; how many words these are. What stands behind them is left open.
 fn write_rule_key(
@@ -20,7 +23,7 @@ fn write_rule_key(
     s: usize,
     key: &mut [u32],
 ) -> usize
-    requires { ⌜ Asked (now pack) (now work) (now class) c at s × (length (now key) ≡ 18) ⌝ }
+    requires { ⌜ Asked (now pack) (now work) (now class) c at s × (length (now key) ≡ mostPremises + 2) ⌝ }
     ensures { λ r. ⌜ WrittenRule (now (pack .entry)) (now (work .entry)) (now (class .entry)) c s (now (key .exit)) r ⌝ }
 {
     let n = step_refs(pack, work, c, s);
@@ -30,10 +33,10 @@ fn write_rule_key(
     while i < n {
         let r = step_ref(pack, work, c, s, i) as usize;
         let f = first_of(pack, work, c, at, r);
-        key[i + 2] = class[f];
+        key[i + Keying::REFS] = class[f];
         i += 1;
     }
-    n + 2
+    n + Keying::REFS
 }
 
 // The key of step `s`; how many words these are. What stands behind them is left open.
@@ -46,7 +49,7 @@ pub fn write_key(
     s: usize,
     key: &mut [u32],
 ) -> usize
-    requires { ⌜ Asked (now pack) (now work) (now class) c at s × (length (now key) ≡ 18) ⌝ }
+    requires { ⌜ Asked (now pack) (now work) (now class) c at s × (length (now key) ≡ mostPremises + 2) ⌝ }
     ensures { λ r. ⌜ Written (now (pack .entry)) (now (work .entry)) (now (class .entry)) c s (now (key .exit)) r ⌝ }
 {
     if step_is_cut(pack, work, c, s) {

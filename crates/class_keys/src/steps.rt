@@ -24,7 +24,7 @@ fn clear_slots(work: &mut [u32], k: Keying, n: usize)
     ensures { λ _. ⌜ Cleared (now (work .entry)) (now (work .exit)) k n ⌝ }
 {
     let a = k.at + Keying::SLOTS * k.cap;
-    zero_words(&mut work[a..a + (3 * n + 1)]);
+    zero_words(&mut work[a..a + (Keying::PROBES * n + 1)]);
 }
 
 // First steps and marks are there, and no class yet; how many steps there are.

@@ -35,7 +35,7 @@ fn has_key(
     ensures { λ r. ⌜ OfHeld (now (pack .entry)) (now (work .entry)) c (λ P. r ≡ same (classKey P (now (work .entry)) (now (class .entry)) k i) (now (key .entry))) ⌝ }
 {
     let f = class_first(work, k, i);
-    let mut own = [0; Limit::PREMISES + 2];
+    let mut own = [0; Limit::PREMISES + Keying::REFS];
     let n = write_key(pack, work, class, c, k.at, f, &mut own);
     same_words(&own[0..n], key)
 }
@@ -82,9 +82,9 @@ pub fn search(
     requires { ⌜ Tabled (now pack) (now work) (now class) c k m × (s < length (recordsOf (now work) c 4)) ⌝ }
     ensures { λ r. ⌜ Sought (now (pack .entry)) (now (work .entry)) (now (class .entry)) c k m s r ⌝ }
 {
-    let mut key = [0; Limit::PREMISES + 2];
+    let mut key = [0; Limit::PREMISES + Keying::REFS];
     let n = write_key(pack, work, class, c, k.at, s, &mut key);
     let steps = c.count(work, Catalog::STEPS);
-    let h = hash_words(2 * steps + 1, &key[0..n]);
+    let h = hash_words(Keying::HASHES * steps + 1, &key[0..n]);
     probe(pack, work, class, c, k, m, h, &key[0..n])
 }

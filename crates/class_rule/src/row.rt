@@ -5,6 +5,7 @@ use base::id::Pattern;
 use class_keys::classes::class_count;
 use class_premises::building::Building;
 use class_premises::layout::Layout;
+use class_premises::row::Row;
 use class_premises::row::begin_row;
 use graph::graph::Graph;
 use graph::places::numbers_at;
@@ -52,5 +53,5 @@ pub fn write_row(
 {
     let count = class_count(work, s.keying, i);
     begin_row(work, class, s.layout, s.fill, i, conclusion, count, n);
-    put_flexes(work, class, cells, s.layout, g, s.fill + 3, n)
+    put_flexes(work, class, cells, s.layout, g, s.fill + Row::MARKS, n)
 }

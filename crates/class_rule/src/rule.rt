@@ -11,6 +11,7 @@ use class_premises::building::Counted;
 use class_premises::building::go_on;
 use class_premises::premise::Reached;
 use class_premises::premises::Ruling;
+use class_premises::row::Row;
 use class_solve::solve::Solved;
 use class_solve::solve::solve_premises;
 use definition::Buffer;
@@ -90,7 +91,7 @@ fn add_class(
                 entries: read.entries,
                 renamings: read.renamings,
             };
-            ClassMade::Made(go_on(s, more, t.memo, s.fill + 3 + n), f)
+            ClassMade::Made(go_on(s, more, t.memo, s.fill + Row::MARKS + n), f)
         }
         Ended::Refused(x) => ClassMade::Refused(x),
     }

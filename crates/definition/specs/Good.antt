@@ -4,7 +4,7 @@ use mathlib.Core.Bool.{true}
 use mathlib.Core.List.{List, [], _∷_}
 use Prim.Native.Nat.{ℕ, suc, _+_, _<_, _≤_}
 use lib.ListN.{length, getD}
-use Rattle.definition.specs.Pack.{prop, Symbol, Term, Terms, var, app, nil, cons, Rule, Node, Step, Goal, Result, Cut, Abstract, Pack, noSymbol, noRule, symbolOf, ruleOf, nodeOf, stepOf, sortOf}
+use Rattle.definition.specs.Pack.{prop, mostSorts, mostSymbols, mostArity, mostRules, mostVariables, mostPremises, mostWords, Symbol, Term, Terms, var, app, nil, cons, Rule, Node, Step, Goal, Result, Cut, Abstract, Pack, noSymbol, noRule, symbolOf, ruleOf, nodeOf, stepOf, sortOf}
 use Rattle.definition.specs.Theory.{isName}
 use Rattle.definition.specs.Certificate.{count}
 use Rattle.definition.specs.Verdict.{noGoal, noResult}
@@ -61,16 +61,16 @@ unfoldable mutual
 pub record GoodSymbol (P : Pack) (y : Symbol) : Type 0 where
   pub output : (y .output ≡ prop → ⊥) → y .output < length (P .sorts)
   pub inputs : Below (length (P .sorts)) (y .inputs)
-  pub arity : length (y .inputs) ≤ 16
+  pub arity : length (y .inputs) ≤ mostArity
   pub name : isName (y .name) ≡ true
 
 pub record GoodRule (P : Pack) (r : Rule) : Type 0 where
   pub vars : Below (length (P .sorts)) (r .vars)
-  pub variables : length (r .vars) ≤ 64
+  pub variables : length (r .vars) ≤ mostVariables
   pub premises : Judgments P (r .vars) (r .premises)
-  pub arity : count (r .premises) ≤ 16
+  pub arity : count (r .premises) ≤ mostPremises
   pub conclusion : Sorted P (r .vars) (r .conclusion) prop
-  pub words : wordsOfAll (r .premises) + wordsOf (r .conclusion) ≤ 256
+  pub words : wordsOfAll (r .premises) + wordsOf (r .conclusion) ≤ mostWords
   pub name : isName (r .name) ≡ true
 
 -- the i-th node
@@ -131,7 +131,7 @@ pub record Once (P : Pack) : Type 0 where
 
 -- "Most": how many there are
 pub record Few (P : Pack) : Type 0 where
-  pub sorts : length (P .sorts) ≤ 256
-  pub symbols : length (P .symbols) ≤ 4096
-  pub rules : length (P .rules) ≤ 4096
+  pub sorts : length (P .sorts) ≤ mostSorts
+  pub symbols : length (P .symbols) ≤ mostSymbols
+  pub rules : length (P .rules) ≤ mostRules
   pub abstracts : length (P .abstracts) ≤ 1

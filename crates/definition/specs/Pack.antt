@@ -7,6 +7,32 @@ use lib.ListN.{getD}
 abbrev pub prop : ℕ
 prop = 4294967295
 
+-- "Most: 256 sorts, 4,096 symbols, arity 16, 4,096 rules, 64 variables, 16 premises and 256 prefix words a rule"
+abbrev pub mostSorts : ℕ
+mostSorts = 256
+
+abbrev pub mostSymbols : ℕ
+mostSymbols = 4096
+
+abbrev pub mostArity : ℕ
+mostArity = 16
+
+abbrev pub mostRules : ℕ
+mostRules = 4096
+
+abbrev pub mostVariables : ℕ
+mostVariables = 64
+
+abbrev pub mostPremises : ℕ
+mostPremises = 16
+
+abbrev pub mostWords : ℕ
+mostWords = 256
+
+-- a name has "1 to 64 bytes"
+abbrev pub mostName : ℕ
+mostName = 64
+
 -- 2 symbol: output sort, input sorts, name
 pub record Symbol : Type 0 where
   pub output : ℕ

@@ -6,7 +6,7 @@ use lib.Dec.{eqb, ltb, leb}
 use lib.ListN.{length, getD, drop, replicate}
 use Rattle.definition.specs.Test.{_and_, all, any, same}
 use Rattle.definition.specs.Little.{le}
-use Rattle.definition.specs.Pack.{prop, Symbol, Term, Terms, var, app, nil, cons, Rule, Pack, symbolOf, withSort, withSymbol, withRule}
+use Rattle.definition.specs.Pack.{prop, mostSorts, mostSymbols, mostArity, mostRules, mostVariables, mostPremises, mostWords, mostName, Symbol, Term, Terms, var, app, nil, cons, Rule, Pack, symbolOf, withSort, withSymbol, withRule}
 use Rattle.definition.specs.Frame.{Checked, good, over, _>>=_, right, within}
 
 -- "bytes of 33 to 126, no round bracket"
@@ -17,7 +17,7 @@ nameByte b = leb 33 b and leb b 126 and not (eqb b 40) and not (eqb b 41)
 -- "Names fill the rest of their body: 1 to 64 bytes of 33 to 126, no round bracket, no leading `?`"
 unfoldable pub isName : List ℕ → Bool
 unfolding _and_ all nameByte
-isName n = leb 1 (length n) and leb (length n) 64 and all nameByte n and not (eqb (getD n 0 0) 63)
+isName n = leb 1 (length n) and leb (length n) mostName and all nameByte n and not (eqb (getD n 0 0) 63)
 
 -- a name that none of these has: "unique in their kind"
 unfoldable pub newName : List ℕ → List (List ℕ) → Bool
@@ -34,7 +34,7 @@ words (suc n) s = le 4 s 0 ∷ words n (drop 4 s)
 unfoldable pub takeSort : Pack → List ℕ → Checked Pack
 unfolding newName withSort
 takeSort P body = do
-  _ ← within (ltb (length (P .sorts)) 256)
+  _ ← within (ltb (length (P .sorts)) mostSorts)
   _ ← right (newName body (P .sorts))
   good (withSort P body)
 
@@ -51,10 +51,10 @@ isOutput P s = elim (eqb s prop) [ true ↦ true | false ↦ isSort P s ]
 unfoldable pub takeSymbol : Pack → List ℕ → Checked Pack
 unfolding newName le words all isSort isOutput _and_ withSymbol
 takeSymbol P body = do
-  _ ← within (ltb (length (P .symbols)) 4096)
+  _ ← within (ltb (length (P .symbols)) mostSymbols)
   _ ← right (leb 6 (length body))
   let arity = le 2 body 4
-  _ ← within (leb arity 16)
+  _ ← within (leb arity mostArity)
   _ ← right (leb (6 + 4 * arity) (length body))
   let inputs = words arity (drop 6 body)
   let name = drop (6 + 4 * arity) body
@@ -77,7 +77,7 @@ unfoldable pub nextWord : Unread → Checked Word
 unfolding le
 nextWord u = do
   _ ← right (leb 4 (length (u .rest)))
-  _ ← within (ltb (u .read) 256)
+  _ ← within (ltb (u .read) mostWords)
   good (record { word = le 4 (u .rest) 0; unread = record { rest = drop 4 (u .rest); read = suc (u .read) } })
 
 -- "symbol number, or 2^31 + variable number"
@@ -130,16 +130,16 @@ only (cons t ts) = t
 unfoldable pub takeRule : Pack → List ℕ → Checked Pack
 unfolding newName le words all isSort _and_ prefix only withRule
 takeRule P body = do
-  _ ← within (ltb (length (P .rules)) 4096)
+  _ ← within (ltb (length (P .rules)) mostRules)
   _ ← right (leb 4 (length body))
   let variables = le 2 body 0
   let premises = le 2 body 2
-  _ ← within (leb variables 64 and leb premises 16)
+  _ ← within (leb variables mostVariables and leb premises mostPremises)
   _ ← right (leb (4 + 4 * variables) (length body))
   let vars = words variables (drop 4 body)
   _ ← right (all (isSort P) vars)
-  ps ← prefix 256 P vars (replicate premises prop) (record { rest = drop (4 + 4 * variables) body; read = 0 })
-  c ← prefix 256 P vars (prop ∷ []) (ps .unread)
+  ps ← prefix mostWords P vars (replicate premises prop) (record { rest = drop (4 + 4 * variables) body; read = 0 })
+  c ← prefix mostWords P vars (prop ∷ []) (ps .unread)
   let name = c .unread .rest
   _ ← right (newName name (map (λ (y : Rule). y .name) (P .rules)))
   good (withRule P (record { vars = vars; premises = ps .terms; conclusion = only (c .terms); name = name }))

@@ -13,6 +13,7 @@ ghost use Rattle.graph.specs.Links.{Holds, Found};
 ghost use Rattle.graph.specs.Nodes.{RootOf};
 ghost use Rattle.graph.specs.Joins.{Apart, Joins, Shares, Binds, HeadOf};
 ghost use Rattle.graph.specs.Pushes.{Rows, Pushes};
+ghost use Rattle.definition.specs.Store.{nothing};
 
 // How many nodes there are, and how many cells they take.
 pub struct Graph {
@@ -27,12 +28,23 @@ pub enum Pushed {
 }
 
 impl Graph {
+    // So many words of a node stand in front: where it starts in the cells, its link and one or 0. Behind the last where the next starts.
+    pub const FRONT: usize = 2;
+
+    const LINK: usize = 1;
+    // So many behind all of these: its sort, whether it is flexible, whether it is rigid.
+    pub const BACK: usize = 3;
+
+    pub const FLEX: usize = 1;
+
+    pub const RIGID: usize = 2;
+
     // The link of node `x` and one, or 0.
     fn link(self, cells: &[u32], table: &[u32], x: usize) -> u32
         requires { ⌜ Laid (now cells) (now table) self × (x < self .nodes) ⌝ }
         ensures { λ r. ⌜ r ≡ linkWord (now (table .entry)) x ⌝ }
     {
-        table[2 * x + 1]
+        table[Graph::FRONT * x + Graph::LINK]
     }
 
     // Whether node `x` is a root.
@@ -59,7 +71,7 @@ impl Graph {
             if upper == 0 {
                 return Node(y);
             }
-            table[2 * at as usize + 1] = upper;
+            table[Graph::FRONT * at as usize + Graph::LINK] = upper;
             at = upper - 1;
         }
     }
@@ -70,7 +82,7 @@ impl Graph {
         ensures { λ r. ⌜ HeadOf (now (cells .entry)) (now (table .entry)) self (x .0) r ⌝ }
     {
         let i = x.0 as usize;
-        let start = table[2 * i] as usize;
+        let start = table[Graph::FRONT * i] as usize;
         cells[start]
     }
 
@@ -80,7 +92,7 @@ impl Graph {
         ensures { λ _. ⌜ Joins (now (cells .entry)) (now (table .entry)) (now (table .exit)) self (x .0) (y .0) ⌝ }
     {
         let i = x.0 as usize;
-        table[2 * i + 1] = y.0 + 1;
+        table[Graph::FRONT * i + Graph::LINK] = y.0 + 1;
     }
 
     // Variable `y` becomes flexible if `x` is.
@@ -91,13 +103,13 @@ impl Graph {
         if self.head(cells, table, y) != Pattern::VAR {
             return;
         }
-        let rest = 2 * cells.len() + 2;
+        let rest = Graph::FRONT * cells.len() + Graph::FRONT;
         let i = x.0 as usize;
-        if table[rest + (3 * i + 1)] == 0 {
+        if table[rest + (Graph::BACK * i + Graph::FLEX)] == 0 {
             return;
         }
         let j = y.0 as usize;
-        table[rest + (3 * j + 1)] = 1;
+        table[rest + (Graph::BACK * j + Graph::FLEX)] = 1;
     }
 
     // Root `x`, a variable, is bound to root `y`.
@@ -111,7 +123,7 @@ impl Graph {
 
     // No node: a graph is cleared by a new one, since every cell and row is written before it is read.
     pub fn new(cells: &[u32], table: &mut [u32]) -> Graph
-        requires { ⌜ (rowsEnd (now cells) ≤ length (now table)) × (length (now cells) < 4294967295) ⌝ }
+        requires { ⌜ (rowsEnd (now cells) ≤ length (now table)) × (length (now cells) < nothing) ⌝ }
         ensures { λ r. ⌜ Shows (now (cells .entry)) (now (table .exit)) r [] × Unchanged (rowsEnd (now (cells .entry))) (now (table .entry)) (now (table .exit)) ⌝ }
     {
         table[0] = 0;
@@ -123,13 +135,13 @@ impl Graph {
         requires { ⌜ (self .nodes < length (now cells)) × (rowsEnd (now cells) ≤ length (now table)) × (end < 4294967296) ⌝ }
         ensures { λ _. ⌜ Rows (now (cells .entry)) (now (table .entry)) (now (table .exit)) self sort flex rigid end ⌝ }
     {
-        let at = 2 * self.nodes;
-        table[at + 1] = 0;
-        table[at + 2] = end as u32;
-        let rest = 2 * cells.len() + 2 + 3 * self.nodes;
+        let at = Graph::FRONT * self.nodes;
+        table[at + Graph::LINK] = 0;
+        table[at + Graph::FRONT] = end as u32;
+        let rest = Graph::FRONT * cells.len() + Graph::FRONT + Graph::BACK * self.nodes;
         table[rest] = sort;
-        table[rest + 1] = flex;
-        table[rest + 2] = rigid;
+        table[rest + Graph::FLEX] = flex;
+        table[rest + Graph::RIGID] = rigid;
     }
 
     // A variable more; a mark is set or 0.

@@ -13,8 +13,8 @@ impl Graph {
         ensures { λ r. ⌜ ArityOf (now (cells .entry)) (now (table .entry)) self (x .0) r ⌝ }
     {
         let i = x.0 as usize;
-        let start = table[2 * i] as usize;
-        let end = table[2 * i + 2] as usize;
+        let start = table[Graph::FRONT * i] as usize;
+        let end = table[Graph::FRONT * i + Graph::FRONT] as usize;
         end - (start + 1)
     }
 
@@ -24,7 +24,7 @@ impl Graph {
         ensures { λ r. ⌜ ArgumentOf (now (cells .entry)) (now (table .entry)) self (x .0) i (r .0) ⌝ }
     {
         let j = x.0 as usize;
-        let start = table[2 * j] as usize;
+        let start = table[Graph::FRONT * j] as usize;
         Node(cells[start + 1 + i])
     }
 
@@ -37,7 +37,7 @@ impl Graph {
             return false;
         }
         let i = x.0 as usize;
-        table[2 * cells.len() + 2 + (3 * i + 2)] == 0
+        table[Graph::FRONT * cells.len() + Graph::FRONT + (Graph::BACK * i + Graph::RIGID)] == 0
     }
 
     // Its sort.
@@ -46,7 +46,7 @@ impl Graph {
         ensures { λ r. ⌜ SortOf (now (cells .entry)) (now (table .entry)) self (x .0) r ⌝ }
     {
         let i = x.0 as usize;
-        table[2 * cells.len() + 2 + 3 * i]
+        table[Graph::FRONT * cells.len() + Graph::FRONT + Graph::BACK * i]
     }
 
     // Whether it is flexible.
@@ -55,6 +55,6 @@ impl Graph {
         ensures { λ r. ⌜ FlexOf (now (cells .entry)) (now (table .entry)) self (x .0) r ⌝ }
     {
         let i = x.0 as usize;
-        0 < table[2 * cells.len() + 2 + (3 * i + 1)]
+        0 < table[Graph::FRONT * cells.len() + Graph::FRONT + (Graph::BACK * i + Graph::FLEX)]
     }
 }

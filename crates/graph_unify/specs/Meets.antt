@@ -11,7 +11,8 @@ use Rattle.graph_unify.specs.declared.meet.Met.{Met}
 use Rattle.graph_unify.specs.declared.meet.Met.the-variants.{On, Clash}
 use Rattle.graph.specs.Cells.{linkWord, rowsEnd, Laid, nodes-few, Shows, SameRows, shows-rows, Unchanged, unchanged-same, unchanged-then, unchanged-later}
 use Rattle.graph.specs.Joins.{Apart, Joins, Binds}
-use Rattle.graph.specs.Stack.{pairsEnd, pairsIn, pairs-same}
+use Rattle.base.specs.Pairs.{pairsIn}
+use Rattle.graph.specs.Stack.{pairsEnd, pairs-same}
 use Rattle.graph_unify.specs.Pairs.{Topmost, topmost-same, PairsOn}
 
 -- a node without a link

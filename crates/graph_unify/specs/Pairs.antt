@@ -11,7 +11,8 @@ use Rattle.graph.specs.declared.graph.Graph.{Graph as Counts}
 use Rattle.graph.specs.Cells.{startIn, rowsEnd, Shows, SameRows, rows-same, rows-then, rows-set, shows-rows, Unchanged, unchanged-same, unchanged-then, unchanged-set}
 use Rattle.graph.specs.Links.{Holds}
 use Rattle.graph.specs.Nodes.{ArityOf, ArgumentOf, arity-of, argument-there}
-use Rattle.graph.specs.Stack.{pairsEnd, leftWord, rightWord, pairsIn, pair, pairs-more}
+use Rattle.base.specs.Pairs.{pairsIn, pair, pairs-more}
+use Rattle.graph.specs.Stack.{pairsEnd, leftWord, rightWord}
 use Rattle.graph_unify.specs.declared.pairs.Pairs.{Pairs}
 
 -- they are the nodes named, if there is a pair

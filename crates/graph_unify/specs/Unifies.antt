@@ -25,7 +25,8 @@ use Rattle.graph.specs.Cells.{startIn, linkWord, linkIn, graphIn, length-graphI
 use Rattle.graph.specs.Links.{Holds, Found, link-of, found-here}
 use Rattle.graph.specs.Pushes.{cells-shown}
 use Rattle.graph.specs.Nodes.{arity-of}
-use Rattle.graph.specs.Stack.{pairsEnd, leftWord, rightWord, pairsIn, length-pairsIn, pairs-same}
+use Rattle.base.specs.Pairs.{pairsIn, length-pairsIn}
+use Rattle.graph.specs.Stack.{pairsEnd, leftWord, rightWord, pairs-same}
 use Rattle.theory.specs.Unification.Inner.{Inner}
 use Rattle.graph.specs.Inner.{HoldsInner, many-nodes}
 use Rattle.graph_unify.specs.Pairs.{Topmost, PairsRoom}

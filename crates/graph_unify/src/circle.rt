@@ -2,6 +2,7 @@
 // each node, its colour.
 use base::id::Node;
 use base::id::Pattern;
+use base::stack::Frame;
 use buffer::zero::zero_words;
 use graph::graph::Graph;
 use graph::places::colours_at;
@@ -48,9 +49,9 @@ fn enter(g: Graph, cells: &[u32], table: &mut [u32], top: usize, y: Node) -> usi
         return top;
     }
     table[colours + i] = Colour::OPEN;
-    let at = pairs_at(cells) + 2 * top;
+    let at = pairs_at(cells) + Frame::WORDS * top;
     table[at] = y.0;
-    table[at + 1] = 0;
+    table[at + Frame::TAKEN] = 0;
     top + 1
 }
 
@@ -69,8 +70,8 @@ fn look(g: Graph, cells: &[u32], table: &mut [u32], top: usize, x: Node, i: usiz
     if seen != Colour::UNSEEN {
         return Seen::Circle;
     }
-    let at = pairs_at(cells) + 2 * top;
-    table[at + 1] = i as u32 + 1;
+    let at = pairs_at(cells) + Frame::WORDS * top;
+    table[at + Frame::TAKEN] = i as u32 + 1;
     if enter(g, cells, table, top + 1, y) == top + 1 {
         return Seen::Ends;
     }
@@ -82,10 +83,10 @@ fn advance(g: Graph, cells: &[u32], table: &mut [u32], top: usize) -> Turn
     requires { ⌜ WalkingIn (now cells) (now table) g (top + 1) ⌝ }
     ensures { λ r. ⌜ AdvancesIn (now (cells .entry)) (now (table .entry)) (now (table .exit)) g top r ⌝ }
 {
-    let at = pairs_at(cells) + 2 * top;
+    let at = pairs_at(cells) + Frame::WORDS * top;
     let x = Node(table[at]);
     let n = g.arity(cells, table, x);
-    let mut i = table[at + 1] as usize;
+    let mut i = table[at + Frame::TAKEN] as usize;
     while i < n {
         match look(g, cells, table, top, x, i) {
             Seen::Ends => {

@@ -1,5 +1,6 @@
 // The pairs that unification still has to take.
 use base::id::Node;
+use base::stack::Frame;
 use graph::graph::Graph;
 use graph::places::pairs_at;
 ghost use mathlib.Core.Path.{_≡_};
@@ -8,6 +9,7 @@ ghost use lib.ListN.{length};
 ghost use Rattle.graph.specs.Cells.{rowsEnd};
 ghost use Rattle.graph.specs.Links.{Holds};
 ghost use Rattle.graph_unify.specs.Pairs.{Topmost, PairsRoom, PairsOn};
+ghost use Rattle.definition.specs.Store.{nothing};
 
 // So many pairs, and the nodes of the last one if there is one. It is on the stack too; here it need not be waited for.
 pub struct Pairs {
@@ -28,7 +30,7 @@ fn least(a: usize, b: usize) -> usize
 
 // The pairs on the stack behind the rows.
 pub fn top_pair(cells: &[u32], table: &[u32], top: usize) -> Pairs
-    requires { ⌜ (rowsEnd (now cells) + 2 * top ≤ length (now table)) × (2 * top ≤ 2 * length (now cells) + 2) × (length (now cells) < 4294967295) ⌝ }
+    requires { ⌜ (rowsEnd (now cells) + 2 * top ≤ length (now table)) × (2 * top ≤ 2 * length (now cells) + 2) × (length (now cells) < nothing) ⌝ }
     ensures { λ r. ⌜ (r .top ≡ top) × Topmost (now (cells .entry)) (now (table .entry)) r ⌝ }
 {
     if top == 0 {
@@ -38,11 +40,11 @@ pub fn top_pair(cells: &[u32], table: &[u32], top: usize) -> Pairs
             right: Node(0),
         };
     }
-    let at = pairs_at(cells) + 2 * (top - 1);
+    let at = pairs_at(cells) + Frame::WORDS * (top - 1);
     Pairs {
         top: top,
         left: Node(table[at]),
-        right: Node(table[at + 1]),
+        right: Node(table[at + Frame::SECOND]),
     }
 }
 
@@ -59,11 +61,11 @@ pub fn push_pairs(g: Graph, cells: &[u32], table: &mut [u32], top: usize, x: Nod
     let mut right = Node(0);
     let mut i: usize = 0;
     while i < n {
-        let at = rows + 2 * (top + i);
+        let at = rows + Frame::WORDS * (top + i);
         left = g.argument(cells, table, x, i);
         right = g.argument(cells, table, y, i);
         table[at] = left.0;
-        table[at + 1] = right.0;
+        table[at + Frame::SECOND] = right.0;
         i += 1;
     }
     if n == 0 {

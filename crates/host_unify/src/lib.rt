@@ -12,7 +12,7 @@ use graph_unify::unify::unify;
 ghost use mathlib.Core.Path.{_≡_};
 ghost use Prim.Native.Nat.{_+_, _≤_, _<_};
 ghost use lib.ListN.{length, getD, replicate};
-ghost use Rattle.definition.specs.Store.{variableHead};
+ghost use Rattle.definition.specs.Store.{variableHead, nothing};
 ghost use Rattle.graph.specs.Links.{Holds};
 ghost use Rattle.graph.specs.Inner.{HoldsInner};
 ghost use Rattle.graph_unify.specs.CircleWords.{coloursEnd};
@@ -116,7 +116,7 @@ fn read_node(terms: &[u32], cells: &mut [u32], work: &mut [u32], g: Graph, at: u
 
 // A new graph, and a turn for each node of the list.
 fn read_nodes(terms: &[u32], cells: &mut [u32], work: &mut [u32]) -> Read
-    requires { ⌜ (coloursEnd (now cells) ≤ length (now work)) × (length (now cells) < 4294967295) ⌝ }
+    requires { ⌜ (coloursEnd (now cells) ≤ length (now work)) × (length (now cells) < nothing) ⌝ }
     ensures { λ r. ⌜ Reads (now (terms .entry)) (now (cells .exit)) (now (work .exit)) r ⌝ }
 {
     let mut g = Graph::new(cells, work);

@@ -34,7 +34,7 @@ use Rattle.graph.specs.Pushes.{cells-shown}
 use Rattle.term_readback.specs.declared.table.Table.{Table}
 use Rattle.term_readback.specs.declared.root.Resolved.the-variants as read
 use Rattle.term_readback.specs.Words.{valuesAt, numbersAt, tableEnd, tableIn, Grounded, Lies, Holding, Ready}
-use Rattle.term_readback.specs.Kept.{lifts-on}
+use Rattle.term_lift.specs.Kept.{lifts-on}
 use Rattle.term_readback.specs.Moved.{table-at, table-long, numbers-most}
 use Rattle.term_readback.specs.Stacks.{Clears, Answers}
 use Rattle.host_walk.specs.declared.answer.Walk.{Walk}

@@ -35,7 +35,7 @@ use Rattle.graph.specs.Cells.{marksIn}
 use Rattle.theory.specs.Copies.Terms.{Patterns}
 use Rattle.term_readback.specs.declared.table.Table.{Table}
 use Rattle.term_readback.specs.Words.{tableIn}
-use Rattle.term_readback.specs.Kept.{lifts-on}
+use Rattle.term_lift.specs.Kept.{lifts-on}
 use Rattle.host_walk.specs.declared.answer.Walk.{Walk}
 use Rattle.host_walk.specs.declared.answer.Walk.the-variants.{Done, Refused}
 use Rattle.host_walk.specs.declared.copies.Times.the-variants.{Made, Short}

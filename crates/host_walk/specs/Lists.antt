@@ -18,7 +18,7 @@ use Rattle.pack_tables.specs.declared.catalog.Catalog.{Catalog}
 use Rattle.term_lift.specs.Lifts.{Lifts}
 use Rattle.term_lift.specs.Nodes.{laid-same}
 use Rattle.term_lift.specs.declared.lift.Lifted.{Lifted}
-use Rattle.term_readback.specs.Kept.{Indexed, Interns}
+use Rattle.term_lift.specs.Kept.{Indexed, Interns}
 use Rattle.theory.specs.Copies.Terms.{Patterns}
 use Rattle.host_walk.specs.declared.list.Turn.{Turn}
 use Rattle.host_walk.specs.declared.list.Turn.the-variants.{Next, Broken, Full}

@@ -36,6 +36,7 @@ ghost use Rattle.host_walk.specs.Places.{Opened};
 ghost use Rattle.host_walk.specs.Copies.{packCopied, copyLeaves};
 ghost use Rattle.host_walk.specs.Times.{NewGraph, Started, Timed};
 ghost use Rattle.host_walk.specs.CopyCalls.{copyingOf, Small, LastOf, LastsOf, CopyableOf, CopiedOf, StockedOf, FromStockOf, Marked, FromList, FromPack};
+ghost use Rattle.definition.specs.Store.{nothing};
 
 // The last copy's node and the graph, or that the cells have no room.
 pub enum Times {
@@ -45,7 +46,7 @@ pub enum Times {
 
 // A graph without nodes.
 fn new_graph(work: &mut [u32], cells: &[u32], l: Copying) -> Graph
-    requires { ⌜ (rowsAt (now cells) l ≤ l .end) × (l .end ≤ length (now work)) × (length (now cells) < 4294967295) ⌝ }
+    requires { ⌜ (rowsAt (now cells) l ≤ l .end) × (l .end ≤ length (now work)) × (length (now cells) < nothing) ⌝ }
     ensures { λ r. ⌜ NewGraph (now (work .entry)) (now (work .exit)) (now (cells .entry)) l r ⌝ }
 {
     let from = l.graph;

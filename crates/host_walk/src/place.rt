@@ -6,6 +6,7 @@ ghost use Prim.Native.Nat.{_≤_, _<_};
 ghost use lib.ListN.{length};
 ghost use Rattle.pack_read.specs.Held.{Held};
 ghost use Rattle.host_walk.specs.Places.{Sized, Lays, Stores};
+ghost use Rattle.definition.specs.Store.{nothing};
 
 // A store of patterns, with the pack's tables and lifting's.
 pub struct Stock {
@@ -31,7 +32,7 @@ pub fn lifting(work: &[u32], words: &[u32], c: Catalog) -> Lifted
 
 // A store without nodes, and nothing is lifted.
 pub fn open_store(pack: &[u8], work: &mut [u32], words: &[u32], c: Catalog, l: Lifted) -> Store
-    requires { ⌜ Held (now pack) (now work) c × Lays (now work) (length (now words)) c l × (l .end ≤ length (now work)) × (length (now words) < 4294967295) ⌝ }
+    requires { ⌜ Held (now pack) (now work) c × Lays (now work) (length (now words)) c l × (l .end ≤ length (now work)) × (length (now words) < nothing) ⌝ }
     ensures { λ r. ⌜ Stores (now (pack .entry)) (now (work .entry)) (now (work .exit)) (now (words .entry)) c l r ⌝ }
 {
     let from = l.at + Lifted::NODE * l.nodes;

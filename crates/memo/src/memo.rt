@@ -20,6 +20,8 @@ impl Memo {
     // So many words a key: a stamp and a value.
     pub const ENTRY: usize = 2;
 
+    const VALUE: usize = 1;
+
     // The last stamp: behind it all words are cleared.
     pub const LAST: u32 = 4294967295;
 
@@ -48,10 +50,10 @@ impl Memo {
         requires { ⌜ k < length (recall (now table) self) ⌝ }
         ensures { λ r. ⌜ known r ≡ getD (recall (now (table .entry)) self) k none ⌝ }
     {
-        let i = 2 * k;
+        let i = Memo::ENTRY * k;
         let stamp = table[i];
         if stamp == self.stamp {
-            return Known::Value(table[i + 1]);
+            return Known::Value(table[i + Memo::VALUE]);
         }
         Known::Nothing
     }
@@ -61,8 +63,8 @@ impl Memo {
         requires { ⌜ Remembers (now table) self × (k < length (recall (now table) self)) ⌝ }
         ensures { λ _. ⌜ Remembers (now (table .exit)) self × (recall (now (table .exit)) self ≡ set (recall (now (table .entry)) self) k (some v)) ⌝ }
     {
-        let i = 2 * k;
+        let i = Memo::ENTRY * k;
         table[i] = self.stamp;
-        table[i + 1] = v;
+        table[i + Memo::VALUE] = v;
     }
 }

@@ -1,6 +1,7 @@
 // The abstract record: what it says in the parsed pack.
 use crate::body::body_word;
 use pack_tables::catalog::Catalog;
+use pack_tables::field::Field;
 ghost use Prim.Native.Nat.{_<_};
 ghost use lib.ListN.{length, getD};
 ghost use Rattle.definition.specs.Good.{noAbstract};
@@ -20,5 +21,12 @@ pub fn abstract_position(pack: &[u8], work: &[u32], c: Catalog, i: usize) -> u32
     requires { ⌜ Readable (now pack) (now work) c × (i < length (recordsOf (now work) c 8)) ⌝ }
     ensures { λ r. ⌜ OfPack (now (pack .entry)) (now (work .entry)) c (λ P. getD (P .abstracts) i noAbstract .position) r ⌝ }
 {
-    body_word(pack, work, c, Catalog::ABSTRACTS, i, 4)
+    body_word(
+        pack,
+        work,
+        c,
+        Catalog::ABSTRACTS,
+        i,
+        Field::ABSTRACT_POSITION,
+    )
 }

@@ -2,6 +2,7 @@
 use crate::body::body_len;
 use crate::body::body_word;
 use pack_tables::catalog::Catalog;
+use pack_tables::field::Field;
 ghost use Prim.Native.Nat.{_<_};
 ghost use lib.ListN.{length, getD};
 ghost use Rattle.definition.specs.Good.{noCut};
@@ -29,5 +30,12 @@ pub fn cut_output(pack: &[u8], work: &[u32], c: Catalog, j: usize, i: usize) -> 
     requires { ⌜ ((R : Readable (now pack) (now work) c) × (j < length (recordsOf (now work) c 7)) × (i < length (getD (R .pack .cuts) j noCut .outputs))) ⌝ }
     ensures { λ r. ⌜ OfPack (now (pack .entry)) (now (work .entry)) c (λ P. getD (getD (P .cuts) j noCut .outputs) i 0) r ⌝ }
 {
-    body_word(pack, work, c, Catalog::CUTS, j, 4 + 4 * i)
+    body_word(
+        pack,
+        work,
+        c,
+        Catalog::CUTS,
+        j,
+        Field::CUT_OUTPUTS + Field::WORD * i,
+    )
 }

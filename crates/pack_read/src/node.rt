@@ -4,6 +4,7 @@ use crate::body::body_word;
 use crate::symbol::symbol_output;
 use base::id::Ground;
 use pack_tables::catalog::Catalog;
+use pack_tables::field::Field;
 ghost use Prim.Native.Nat.{_<_};
 ghost use lib.ListN.{length, getD};
 ghost use Rattle.definition.specs.Pack.{nodeOf, sortOf};
@@ -31,7 +32,14 @@ pub fn node_argument(pack: &[u8], work: &[u32], c: Catalog, n: Ground, i: usize)
     requires { ⌜ ((R : Readable (now pack) (now work) c) × (n .0 < length (recordsOf (now work) c 3)) × (i < length (nodeOf (R .pack) (n .0) .args))) ⌝ }
     ensures { λ r. ⌜ OfPack (now (pack .entry)) (now (work .entry)) c (λ P. getD (nodeOf P (n .0) .args) i 0) (r .0) ⌝ }
 {
-    Ground(body_word(pack, work, c, Catalog::NODES, n.0 as usize, 4 + 4 * i))
+    Ground(body_word(
+        pack,
+        work,
+        c,
+        Catalog::NODES,
+        n.0 as usize,
+        Field::NODE_ARGUMENTS + Field::WORD * i,
+    ))
 }
 
 // Its sort, that of its head's output.

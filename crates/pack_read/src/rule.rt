@@ -4,6 +4,7 @@ use crate::body::body_word;
 use crate::symbol::symbol_arity;
 use base::id::Prefix;
 use pack_tables::catalog::Catalog;
+use pack_tables::field::Field;
 ghost use mathlib.Core.Path.{_≡_};
 ghost use Prim.Native.Nat.{_+_, _<_};
 ghost use lib.ListN.{length, getD};
@@ -30,7 +31,7 @@ pub fn rule_premises(pack: &[u8], work: &[u32], c: Catalog, r: usize) -> usize
     requires { ⌜ Readable (now pack) (now work) c × (r < length (recordsOf (now work) c 2)) ⌝ }
     ensures { λ n. ⌜ OfPack (now (pack .entry)) (now (work .entry)) c (λ P. count (ruleOf P r .premises)) n ⌝ }
 {
-    body_half(pack, work, c, Catalog::RULES, r, 2) as usize
+    body_half(pack, work, c, Catalog::RULES, r, Field::RULE_PREMISES) as usize
 }
 
 // The sort of its variable `k`.
@@ -38,7 +39,14 @@ pub fn rule_var(pack: &[u8], work: &[u32], c: Catalog, r: usize, k: usize) -> u3
     requires { ⌜ ((R : Readable (now pack) (now work) c) × (r < length (recordsOf (now work) c 2)) × (k < length (ruleOf (R .pack) r .vars))) ⌝ }
     ensures { λ s. ⌜ OfPack (now (pack .entry)) (now (work .entry)) c (λ P. getD (ruleOf P r .vars) k 0) s ⌝ }
 {
-    body_word(pack, work, c, Catalog::RULES, r, 4 + 4 * k)
+    body_word(
+        pack,
+        work,
+        c,
+        Catalog::RULES,
+        r,
+        Field::RULE_SORTS + Field::WORD * k,
+    )
 }
 
 // Its prefix word `i`, behind so many variables.
@@ -46,7 +54,14 @@ pub fn rule_word(pack: &[u8], work: &[u32], c: Catalog, r: usize, vars: usize, i
     requires { ⌜ ((R : Readable (now pack) (now work) c) × (r < length (recordsOf (now work) c 2)) × (vars ≡ length (ruleOf (R .pack) r .vars)) × (i < length (ruleWords (ruleOf (R .pack) r)))) ⌝ }
     ensures { λ w. ⌜ WordOfRule (now (pack .entry)) (now (work .entry)) c r i w ⌝ }
 {
-    body_word(pack, work, c, Catalog::RULES, r, 4 + 4 * vars + 4 * i)
+    body_word(
+        pack,
+        work,
+        c,
+        Catalog::RULES,
+        r,
+        Field::RULE_SORTS + Field::WORD * vars + Field::WORD * i,
+    )
 }
 
 // How many terms follow the prefix word `w`: as many as the symbol has inputs, none behind a variable.

@@ -3,6 +3,7 @@ use crate::body::body_len;
 use crate::body::body_word;
 use base::id::Ground;
 use pack_tables::catalog::Catalog;
+use pack_tables::field::Field;
 ghost use Prim.Native.Nat.{_<_};
 ghost use lib.ListN.{length, getD};
 ghost use Rattle.definition.specs.Pack.{stepOf};
@@ -22,7 +23,7 @@ pub fn step_judgment(pack: &[u8], work: &[u32], c: Catalog, s: usize) -> Ground
     requires { ⌜ Readable (now pack) (now work) c × (s < length (recordsOf (now work) c 4)) ⌝ }
     ensures { λ r. ⌜ OfPack (now (pack .entry)) (now (work .entry)) c (λ P. stepOf P s .judgment) (r .0) ⌝ }
 {
-    Ground(body_word(pack, work, c, Catalog::STEPS, s, 4))
+    Ground(body_word(pack, work, c, Catalog::STEPS, s, Field::STEP_JUDGMENT))
 }
 
 // How many refs it has.
@@ -38,5 +39,12 @@ pub fn step_ref(pack: &[u8], work: &[u32], c: Catalog, s: usize, i: usize) -> u3
     requires { ⌜ ((R : Readable (now pack) (now work) c) × (s < length (recordsOf (now work) c 4)) × (i < length (stepOf (R .pack) s .refs))) ⌝ }
     ensures { λ r. ⌜ OfPack (now (pack .entry)) (now (work .entry)) c (λ P. getD (stepOf P s .refs) i 0) r ⌝ }
 {
-    body_word(pack, work, c, Catalog::STEPS, s, 8 + 4 * i)
+    body_word(
+        pack,
+        work,
+        c,
+        Catalog::STEPS,
+        s,
+        Field::STEP_REFS + Field::WORD * i,
+    )
 }

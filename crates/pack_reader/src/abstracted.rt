@@ -5,6 +5,7 @@ use buffer::little::u32_at;
 use pack_read::symbol::symbol_arity;
 use pack_read::symbol::symbol_output;
 use pack_tables::catalog::Catalog;
+use pack_tables::field::Field;
 use pack_tables::header::Header;
 ghost use Rattle.definition.specs.Certificate.{takeAbstract};
 ghost use Rattle.pack_reader.specs.Taking.{Reading, Whole, behind, Takes};
@@ -28,7 +29,7 @@ pub fn take_abstract(pack: &[u8], body: &[u8], work: &mut [u32], c: Catalog, at:
     if symbol_output(pack, work, c, constructor) == Ground::PROP {
         return Taken::Bad;
     }
-    let position = u32_at(body, 4) as usize;
+    let position = u32_at(body, Field::ABSTRACT_POSITION) as usize;
     if symbol_arity(pack, work, c, constructor) <= position {
         return Taken::Bad;
     }

@@ -5,6 +5,7 @@ use buffer::little::u32_at;
 use pack_read::symbol::symbol_arity;
 use pack_read::symbol::symbol_output;
 use pack_tables::catalog::Catalog;
+use pack_tables::field::Field;
 use pack_tables::header::Header;
 use pack_tables::row::all_below;
 ghost use mathlib.Core.Path.{_≡_};
@@ -38,7 +39,7 @@ pub fn take_cut(pack: &[u8], body: &[u8], work: &mut [u32], c: Catalog, at: usiz
     requires { ⌜ Reading (now pack) (now work) c at × Whole (now pack) (now body) at × Sound (now pack) (now work) c × Marks (now pack) (now work) c ⌝ }
     ensures { λ r. ⌜ Advances (now (pack .entry)) (now (work .entry)) (now (work .exit)) c (behind at (now (body .entry))) (λ P. takeCut P (now (body .entry))) r ⌝ }
 {
-    if body.len() < 4 {
+    if body.len() < Field::CUT_OUTPUTS {
         return Taken::Bad;
     }
     let predicate = u32_at(body, 0) as usize;
@@ -48,12 +49,12 @@ pub fn take_cut(pack: &[u8], body: &[u8], work: &mut [u32], c: Catalog, at: usiz
     if symbol_output(pack, work, c, predicate) != Ground::PROP {
         return Taken::Bad;
     }
-    let positions = (body.len() - 4) / 4;
-    if body.len() != 4 + 4 * positions {
+    let positions = (body.len() - Field::CUT_OUTPUTS) / Field::WORD;
+    if body.len() != Field::CUT_OUTPUTS + Field::WORD * positions {
         return Taken::Bad;
     }
     let arity = symbol_arity(pack, work, c, predicate);
-    if !all_below(body, 4, positions, arity) {
+    if !all_below(body, Field::CUT_OUTPUTS, positions, arity) {
         return Taken::Bad;
     }
     if cut_mark(pack, work, c, predicate) != 0 {

@@ -6,6 +6,7 @@ use pack_read::node::node_sort;
 use pack_read::symbol::symbol_arity;
 use pack_read::symbol::symbol_input;
 use pack_tables::catalog::Catalog;
+use pack_tables::field::Field;
 use pack_tables::header::Header;
 use pack_tables::region::Entered;
 use pack_tables::row::word;
@@ -29,7 +30,7 @@ fn arguments_fit(
     let nodes = c.count(work, Catalog::NODES);
     let mut i = 0;
     while i < arity {
-        let n = Ground(word(body, 4, i));
+        let n = Ground(word(body, Field::NODE_ARGUMENTS, i));
         if nodes <= n.0 as usize {
             return false;
         }
@@ -46,7 +47,7 @@ pub fn take_node(pack: &[u8], body: &[u8], work: &mut [u32], c: Catalog, at: usi
     requires { ⌜ Reading (now pack) (now work) c at × Whole (now pack) (now body) at × Sound (now pack) (now work) c ⌝ }
     ensures { λ r. ⌜ Takes (now (pack .entry)) (now (work .entry)) (now (work .exit)) c 3 (behind at (now (body .entry))) (λ P. takeNode P (now (body .entry))) r ⌝ }
 {
-    if body.len() < 4 {
+    if body.len() < Field::NODE_ARGUMENTS {
         return Taken::Bad;
     }
     let head = u32_at(body, 0) as usize;
@@ -54,7 +55,7 @@ pub fn take_node(pack: &[u8], body: &[u8], work: &mut [u32], c: Catalog, at: usi
         return Taken::Bad;
     }
     let arity = symbol_arity(pack, work, c, head);
-    if body.len() != 4 + 4 * arity {
+    if body.len() != Field::NODE_ARGUMENTS + Field::WORD * arity {
         return Taken::Bad;
     }
     if !arguments_fit(pack, body, work, c, head, arity) {

@@ -5,6 +5,7 @@ use crate::terms::read_terms;
 use base::limit::Limit;
 use buffer::little::u16_at;
 use pack_tables::catalog::Catalog;
+use pack_tables::field::Field;
 use pack_tables::header::Header;
 use pack_tables::name::is_name;
 use pack_tables::region::Entered;
@@ -34,21 +35,21 @@ pub enum Form {
 fn rule_counts(body: &[u8], sorts: usize) -> Count
     ensures { λ r. ⌜ Counts (now (body .entry)) sorts r ⌝ }
 {
-    if body.len() < 4 {
+    if body.len() < Field::RULE_SORTS {
         return Count::Wrong;
     }
     let vars = u16_at(body, 0) as usize;
     if Limit::VARIABLES < vars {
         return Count::Wide;
     }
-    let premises = u16_at(body, 2) as usize;
+    let premises = u16_at(body, Field::RULE_PREMISES) as usize;
     if Limit::PREMISES < premises {
         return Count::Wide;
     }
-    if body.len() < 4 + 4 * vars {
+    if body.len() < Field::RULE_SORTS + Field::WORD * vars {
         return Count::Wrong;
     }
-    if !all_below(body, 4, vars, sorts) {
+    if !all_below(body, Field::RULE_SORTS, vars, sorts) {
         return Count::Wrong;
     }
     Count::Terms(vars, premises)

@@ -5,6 +5,7 @@ use buffer::little::u32_at;
 use pack_read::body::body_half;
 use pack_read::node::node_sort;
 use pack_tables::catalog::Catalog;
+use pack_tables::field::Field;
 use pack_tables::header::Header;
 use pack_tables::row::all_below;
 ghost use Rattle.definition.specs.Certificate.{takeStep};
@@ -23,15 +24,15 @@ pub fn take_step(pack: &[u8], body: &[u8], work: &mut [u32], c: Catalog, at: usi
     if c.count(work, Catalog::RULES) <= rule {
         return Taken::Bad;
     }
-    let judgment = Ground(u32_at(body, 4));
+    let judgment = Ground(u32_at(body, Field::STEP_JUDGMENT));
     if c.count(work, Catalog::NODES) <= judgment.0 as usize {
         return Taken::Bad;
     }
     if node_sort(pack, work, c, judgment) != Ground::PROP {
         return Taken::Bad;
     }
-    let premises = body_half(pack, work, c, Catalog::RULES, rule, 2) as usize;
-    if body.len() != 8 + 4 * premises {
+    let premises = body_half(pack, work, c, Catalog::RULES, rule, Field::RULE_PREMISES) as usize;
+    if body.len() != Field::STEP_REFS + Field::WORD * premises {
         return Taken::Bad;
     }
     let steps = c.count(work, Catalog::STEPS);

@@ -5,6 +5,7 @@ use base::limit::Limit;
 use buffer::little::u16_at;
 use buffer::little::u32_at;
 use pack_tables::catalog::Catalog;
+use pack_tables::field::Field;
 use pack_tables::header::Header;
 use pack_tables::name::is_name;
 use pack_tables::region::Entered;
@@ -37,11 +38,11 @@ fn symbol_shape(body: &[u8], sorts: usize) -> Shape
     if body.len() < 6 {
         return Shape::Wrong;
     }
-    let arity = u16_at(body, 4) as usize;
+    let arity = u16_at(body, Field::SYMBOL_ARITY) as usize;
     if Limit::ARITY < arity {
         return Shape::Wide;
     }
-    let name = 6 + 4 * arity;
+    let name = Field::SYMBOL_INPUTS + Field::WORD * arity;
     if body.len() < name {
         return Shape::Wrong;
     }

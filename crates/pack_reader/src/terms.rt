@@ -2,11 +2,13 @@
 use base::id::Ground;
 use base::id::Prefix;
 use base::limit::Limit;
+use base::stack::Frame;
 use buffer::little::u32_at;
 use pack_read::symbol::symbol_arity;
 use pack_read::symbol::symbol_input;
 use pack_read::symbol::symbol_output;
 use pack_tables::catalog::Catalog;
+use pack_tables::field::Field;
 use pack_tables::row::word;
 ghost use Prim.Native.Nat.{_+_, _*_, _<_, _≤_};
 ghost use lib.ListN.{length};
@@ -15,6 +17,8 @@ ghost use Rattle.pack_read.specs.Says.{Readable};
 ghost use Rattle.pack_reader.specs.Reading.{Stacked, Wants, Fitting, Descended};
 ghost use Rattle.pack_reader.specs.TermsTurns.{Reached, Turned};
 ghost use Rattle.pack_reader.specs.TermsRun.{TermsRead};
+ghost use Rattle.definition.specs.Pack.{mostWords, mostPremises};
+ghost use Rattle.definition.specs.Theory.{variable};
 
 // How far the reading is: the next word's place in the body, how many words were read, how many frames there are, and how many
 // judgments are still to be read.
@@ -67,8 +71,8 @@ fn next_sort(pack: &[u8], work: &[u32], c: Catalog, frames: &mut [u32], p: Point
             },
         );
     }
-    let h = frames[2 * (n - 1)] as usize;
-    let i = frames[2 * (n - 1) + 1] as usize;
+    let h = frames[Frame::WORDS * (n - 1)] as usize;
+    let i = frames[Frame::WORDS * (n - 1) + Frame::TAKEN] as usize;
     let s = symbol_input(pack, work, c, h, i);
     let arity = symbol_arity(pack, work, c, h);
     if arity <= i + 1 {
@@ -82,7 +86,7 @@ fn next_sort(pack: &[u8], work: &[u32], c: Catalog, frames: &mut [u32], p: Point
             },
         );
     }
-    frames[2 * (n - 1) + 1] = i as u32 + 1;
+    frames[Frame::WORDS * (n - 1) + Frame::TAKEN] = i as u32 + 1;
     Want::Sort(s, p)
 }
 
@@ -96,7 +100,7 @@ fn fits_at(pack: &[u8], work: &[u32], c: Catalog, body: &[u8], vars: usize, s: u
         if vars <= v {
             return false;
         }
-        return word(body, 4, v) == s;
+        return word(body, Field::RULE_SORTS, v) == s;
     }
     let h = w as usize;
     if c.count(work, Catalog::SYMBOLS) <= h {
@@ -107,7 +111,7 @@ fn fits_at(pack: &[u8], work: &[u32], c: Catalog, body: &[u8], vars: usize, s: u
 
 // The frames behind the word `w`: a symbol with arguments is one more.
 fn descend(pack: &[u8], work: &[u32], c: Catalog, frames: &mut [u32], p: Point, w: u32) -> Point
-    requires { ⌜ Readable (now pack) (now work) c × Stacked (now pack) (recordsOf (now work) c) (now frames) (p .frames) × (p .frames < 256) × (w < 2147483648 → w < length (recordsOf (now work) c 1)) ⌝ }
+    requires { ⌜ Readable (now pack) (now work) c × Stacked (now pack) (recordsOf (now work) c) (now frames) (p .frames) × (p .frames < mostWords) × (w < variable → w < length (recordsOf (now work) c 1)) ⌝ }
     ensures { λ q. ⌜ Descended (now (pack .entry)) (recordsOf (now (work .entry)) c) (now (frames .entry)) (now (frames .exit)) p w q ⌝ }
 {
     if Prefix::VAR <= w {
@@ -118,8 +122,8 @@ fn descend(pack: &[u8], work: &[u32], c: Catalog, frames: &mut [u32], p: Point, 
         return p;
     }
     let n = p.frames;
-    frames[2 * n] = w;
-    frames[2 * n + 1] = 0;
+    frames[Frame::WORDS * n] = w;
+    frames[Frame::WORDS * n + Frame::TAKEN] = 0;
     Point {
         at: p.at,
         read: p.read,
@@ -162,7 +166,7 @@ fn read_word(
                 c,
                 frames,
                 Point {
-                    at: at + 4,
+                    at: at + Field::WORD,
                     read: read + 1,
                     frames: q.frames,
                     left: q.left,
@@ -182,12 +186,12 @@ pub fn read_terms(
     vars: usize,
     premises: usize,
 ) -> Terms
-    requires { ⌜ Readable (now pack) (now work) c × (4 + 4 * vars ≤ length (now body)) × (premises ≤ 16) ⌝ }
+    requires { ⌜ Readable (now pack) (now work) c × (4 + 4 * vars ≤ length (now body)) × (premises ≤ mostPremises) ⌝ }
     ensures { λ r. ⌜ TermsRead (now (pack .entry)) (recordsOf (now (work .entry)) c) (now (body .entry)) vars premises r ⌝ }
 {
-    let mut frames = [0u32; 2 * Limit::WORDS];
+    let mut frames = [0u32; Frame::WORDS * Limit::WORDS];
     let mut p = Point {
-        at: 4 + 4 * vars,
+        at: Field::RULE_SORTS + Field::WORD * vars,
         read: 0,
         frames: 0,
         left: premises + 1,

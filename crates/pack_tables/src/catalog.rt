@@ -1,5 +1,6 @@
 // The regions of all kinds, one behind the other in work, by the numbers of their tables.
 use crate::region::Entered;
+use crate::region::Region;
 use crate::region::Sought;
 ghost use mathlib.Core.Path.{_≡_};
 ghost use mathlib.Core.Bool.{true, false};
@@ -91,7 +92,7 @@ impl Catalog {
         ensures { λ r. ⌜ r ≡ getD (recordsOf (now (work .entry)) self kind) i noPlace .at ⌝ }
     {
         let a = self.start(work, kind);
-        work[a + (2 * i + 1)] as usize
+        work[a + (Region::PLACE * i + Region::AT)] as usize
     }
 
     // Where its key starts.
@@ -100,7 +101,7 @@ impl Catalog {
         ensures { λ r. ⌜ r ≡ getD (recordsOf (now (work .entry)) self kind) i noPlace .from ⌝ }
     {
         let a = self.start(work, kind);
-        work[a + (2 * i + 2)] as usize
+        work[a + (Region::PLACE * i + Region::KEY)] as usize
     }
 
     // The record of a kind that has this key.

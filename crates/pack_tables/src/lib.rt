@@ -1,4 +1,5 @@
 // The framing of records, and what their bodies are made of: names and rows of words.
+pub mod field;
 pub mod header;
 pub mod name;
 pub mod row;

@@ -13,6 +13,7 @@ ghost use Rattle.definition.specs.Test.{same};
 ghost use Rattle.base.specs.Hash.{hashOf};
 ghost use Rattle.pack_tables.specs.Place.{keyAt, endOf};
 ghost use Rattle.pack_tables.specs.Region.{sizeFor, countIn, placeIn, places, hashesFor, slotsIn, Kept, Keyed, Finds, Enters, Emptied, Searching, Probed, appended, Appending, Entering};
+ghost use Rattle.definition.specs.Answer.{mostWork};
 
 // Where a search for a key ends: at the slot that holds it, or at the first free one.
 enum Slot {
@@ -32,6 +33,22 @@ pub enum Entered {
     Old,
 }
 
+// A region's words: how many records there are; two for each, where it stands and where its key starts; the slots of a probe table.
+pub struct Region(pub usize);
+
+impl Region {
+    // So many words a record, and where they stand from the words of the records ahead of it on.
+    pub const PLACE: usize = 2;
+
+    pub const AT: usize = 1;
+
+    pub const KEY: usize = 2;
+    // So many hashes and slots a record that there is room for, and one more.
+    pub const HASHES: usize = 2;
+
+    pub const SLOTS: usize = 3;
+}
+
 // Behind the record at `at`.
 pub fn end_of(pack: &[u8], at: usize) -> usize
     requires { ⌜ at + 6 ≤ length (now pack) ⌝ }
@@ -46,8 +63,8 @@ pub fn key_of<'a>(pack: &'a [u8], region: &[u32], cap: usize, i: usize) -> &'a [
     requires { ⌜ Kept (now pack) (now region) cap × (i < countIn (now region)) ⌝ }
     ensures { λ r. ⌜ now r ≡ keyAt (now (pack .entry)) (placeIn (now (region .entry)) i) ⌝ }
 {
-    let at = region[2 * i + 1] as usize;
-    let from = region[2 * i + 2] as usize;
+    let at = region[Region::PLACE * i + Region::AT] as usize;
+    let from = region[Region::PLACE * i + Region::KEY] as usize;
     let end = end_of(pack, at);
     &pack[from..end]
 }
@@ -84,9 +101,16 @@ fn search(pack: &[u8], region: &[u32], cap: usize, key: &[u8]) -> Slot
     requires { ⌜ Keyed (now pack) (now region) cap ⌝ }
     ensures { λ r. ⌜ Probed (now (pack .entry)) (slotsIn (now (region .entry)) cap) (now (region .entry)) (hashOf (hashesFor cap) (now (key .entry))) (now (key .entry)) r ⌝ }
 {
-    let h = hash_bytes(2 * cap + 1, key);
-    let a = 2 * cap + 1;
-    probe(pack, &region[a..a + (3 * cap + 1)], region, cap, h, key)
+    let h = hash_bytes(Region::HASHES * cap + 1, key);
+    let a = Region::PLACE * cap + Region::AT;
+    probe(
+        pack,
+        &region[a..a + (Region::SLOTS * cap + 1)],
+        region,
+        cap,
+        h,
+        key,
+    )
 }
 
 // The record that has this key.
@@ -96,7 +120,7 @@ pub fn find(pack: &[u8], region: &[u32], cap: usize, key: &[u8]) -> Sought
 {
     match search(pack, region, cap, key) {
         Slot::Found(s) => {
-            let a = 2 * cap + 1;
+            let a = Region::PLACE * cap + Region::AT;
             let id = region[a + s];
             Sought::At((id - 1) as usize)
         }
@@ -110,8 +134,8 @@ fn append(region: &mut [u32], cap: usize, at: usize, from: usize)
     ensures { λ _. ⌜ now (region .exit) ≡ appended (now (region .entry)) at from ⌝ }
 {
     let n = region[0] as usize;
-    region[2 * n + 1] = at as u32;
-    region[2 * n + 2] = from as u32;
+    region[Region::PLACE * n + Region::AT] = at as u32;
+    region[Region::PLACE * n + Region::KEY] = from as u32;
     region[0] = n as u32 + 1;
 }
 
@@ -135,20 +159,20 @@ pub fn enter(pack: &[u8], region: &mut [u32], cap: usize, at: usize, from: usize
     };
     append(region, cap, at, from);
     let id = region[0];
-    let a = 2 * cap + 1;
+    let a = Region::PLACE * cap + Region::AT;
     region[a + s] = id;
     Entered::New
 }
 
 // A region without records; the slots of a kind without keys are never read.
 pub fn clear(region: &mut [u32], cap: usize, keys: bool)
-    requires { ⌜ (length (now region) ≡ sizeFor cap) × (cap < 1073741824) ⌝ }
+    requires { ⌜ (length (now region) ≡ sizeFor cap) × (cap < mostWork) ⌝ }
     ensures { λ _. ⌜ Emptied (now (region .exit)) cap keys ⌝ }
 {
     region[0] = 0;
     if !keys {
         return;
     }
-    let a = 2 * cap + 1;
-    zero_words(&mut region[a..a + (3 * cap + 1)]);
+    let a = Region::PLACE * cap + Region::AT;
+    zero_words(&mut region[a..a + (Region::SLOTS * cap + 1)]);
 }

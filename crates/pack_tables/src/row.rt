@@ -1,4 +1,5 @@
 // Rows of words in a record's body, four bytes each.
+use crate::field::Field;
 ghost use mathlib.Core.Path.{_≡_};
 ghost use Prim.Native.Nat.{_+_, _*_, _≤_};
 ghost use lib.Dec.{ltb};
@@ -13,7 +14,7 @@ pub fn word(body: &[u8], at: usize, i: usize) -> u32
     requires { ⌜ at + 4 * i + 4 ≤ length (now body) ⌝ }
     ensures { λ r. ⌜ r ≡ le 4 (now (body .entry)) (at + 4 * i) ⌝ }
 {
-    u32_at(body, at + 4 * i)
+    u32_at(body, at + Field::WORD * i)
 }
 
 // Whether each of the `n` words from `at` on is below `bound`.

@@ -60,14 +60,22 @@ fn free_slot(slots: &[u32], h: usize) -> usize
 impl Store {
     // The index has so many words for each node that the words have room for, and one more: where it starts, and three slots.
     pub const INDEX: usize = 4;
+    // A node's fewest words: how many arguments it has, and its head.
+    pub const LEAST: usize = 2;
+    // So many hashes a node, at the least; there are so many at first, and then so many times as many.
+    const HASHES: usize = 2;
+
+    const FIRST: usize = 512;
+
+    const GROWTH: usize = 4;
 
     // A store without nodes; `index` has four words for each two of `words`, and one more.
     pub fn new(index: &mut [u32], words: &[u32]) -> Store
         requires { ⌜ Enough (now index) (now words) ⌝ }
         ensures { λ r. ⌜ Stored (now (index .exit)) (now (words .entry)) r × (nodes (now (words .entry)) r ≡ []) ⌝ }
     {
-        let room = words.len() / 2;
-        let m = least(512, 2 * room + 1);
+        let room = words.len() / Store::LEAST;
+        let m = least(Store::FIRST, Store::HASHES * room + 1);
         let st = Store {
             len: 0,
             used: 0,
@@ -96,7 +104,7 @@ impl Store {
         ensures { λ r. ⌜ now r ≡ keyOf (getD (nodes (now (words .entry)) self) i noNode) ⌝ }
     {
         let at = index[i] as usize;
-        let end = at + 2 + words[at] as usize;
+        let end = at + Store::LEAST + words[at] as usize;
         &words[at + 1..end]
     }
 
@@ -173,7 +181,7 @@ impl Store {
     {
         let m = self.hashes;
         let h = hash_words(m, key);
-        let room = words.len() / 2;
+        let room = words.len() / Store::LEAST;
         let end = room + (m + m / 2);
         self.probe(&index[room..end], index, words, h, key)
     }
@@ -204,7 +212,7 @@ impl Store {
         let m = self.hashes;
         let key = self.key_at(index, words, i);
         let h = hash_words(m, key);
-        let room = words.len() / 2;
+        let room = words.len() / Store::LEAST;
         let s = free_slot(&index[room..room + (m + m / 2)], h);
         index[room + s] = i as u32 + 1;
     }
@@ -215,7 +223,7 @@ impl Store {
         ensures { λ r. ⌜ (r ≡ self) × Stored (now (index .exit)) (now (words .entry)) self ⌝ }
     {
         let m = self.hashes;
-        let room = words.len() / 2;
+        let room = words.len() / Store::LEAST;
         zero_words(&mut index[room..room + (m + m / 2)]);
         let mut i = 0;
         while i < self.len {
@@ -231,14 +239,14 @@ impl Store {
         ensures { λ r. ⌜ Added (now (words .entry)) (now (index .exit)) (now (words .exit)) self (now (key .entry)) r ⌝ }
     {
         let m = self.hashes;
-        let room = words.len() / 2;
+        let room = words.len() / Store::LEAST;
         let st = self.append(index, words, key);
         let n = st.len;
-        if 2 * n <= m {
+        if Store::HASHES * n <= m {
             index[room + s] = n as u32;
             return st;
         }
-        let wide = least(4 * m, 2 * room + 1);
+        let wide = least(Store::GROWTH * m, Store::HASHES * room + 1);
         Store {
             len: n,
             used: st.used,
@@ -253,7 +261,7 @@ impl Store {
     {
         match self.search(index, words, key) {
             Slot::Found(s) => {
-                let room = words.len() / 2;
+                let room = words.len() / Store::LEAST;
                 Interned::Id(Pattern(index[room + s] - 1), self)
             }
             Slot::Free(s) => {

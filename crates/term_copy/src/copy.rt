@@ -4,6 +4,7 @@ use crate::node::copy_node;
 use crate::node::copy_of;
 use base::id::Node;
 use base::id::Pattern;
+use base::stack::Frame;
 use buffer::zero::zero_words;
 use graph::graph::Graph;
 use graph::graph::Pushed;
@@ -41,7 +42,7 @@ fn passes(work: &[u32], l: Copying, memo: Memo, at: usize) -> bool
     requires { ⌜ (l .copied ≤ l .walk) × (l .walk ≤ length (now work)) × (at + 1 < length (now work)) × (getD (now work) at 0 < length (recall (tableIn (now work) l) memo)) ⌝ }
     ensures { λ r. ⌜ r ≡ (eqb (getD (now (work .entry)) (at + 1) 0) 0 and isSome (valueIn (now (work .entry)) l memo (getD (now (work .entry)) at 0))) ⌝ }
 {
-    if work[at + 1] != 0 {
+    if work[at + Frame::TAKEN] != 0 {
         return false;
     }
     let p = work[at];
@@ -69,13 +70,13 @@ fn deepen(work: &mut [u32], at: usize, key: &[u32]) -> bool
     requires { ⌜ Deeper (now work) at (now key) ⌝ }
     ensures { λ r. ⌜ Deepens (now (work .entry)) (now (work .exit)) at (now (key .entry)) r ⌝ }
 {
-    let taken = work[at + 1];
+    let taken = work[at + Frame::TAKEN];
     if kids(key) <= taken as usize {
         return false;
     }
-    work[at + 1] = taken + 1;
-    work[at + 2] = key[taken as usize + 1];
-    work[at + 3] = 0;
+    work[at + Frame::TAKEN] = taken + 1;
+    work[at + Frame::WORDS] = key[taken as usize + 1];
+    work[at + Frame::NEXT_TAKEN] = 0;
     true
 }
 
@@ -95,7 +96,7 @@ fn advance(
     requires { ⌜ Ready (now work) (now words) (now cells) (now flex) l st memo g (suc top) ⌝ }
     ensures { λ r. ⌜ Advances (now (work .entry)) (now (work .exit)) (now (words .entry)) (now (cells .entry)) (now (cells .exit)) (now (flex .entry)) l st memo g top r ⌝ }
 {
-    let at = l.walk + 2 * top;
+    let at = l.walk + Frame::WORDS * top;
     if passes(work, l, memo, at) {
         return Turn::On(top, g);
     }
@@ -154,7 +155,7 @@ fn begin(work: &mut [u32], l: Copying, memo: Memo, flex: &[u32], p: Pattern) -> 
     let last = first + flex.len();
     zero_words(&mut work[first..last]);
     work[at] = p.0;
-    work[at + 1] = 0;
+    work[at + Frame::TAKEN] = 0;
     fresh
 }
 

@@ -11,7 +11,7 @@ ghost use mathlib.Core.Path.{_≡_};
 ghost use mathlib.Core.List.{map};
 ghost use Prim.Native.Nat.{_+_, _-_, _*_, _≤_, _<_};
 ghost use lib.ListN.{length, getD, take, drop};
-ghost use Rattle.definition.specs.Store.{variableHead};
+ghost use Rattle.definition.specs.Store.{variableHead, nothing};
 ghost use Rattle.definition.specs.Graph.{variableVertex, applied};
 ghost use Rattle.base.specs.Outside.{Outside};
 ghost use Rattle.memo.specs.Recall.{recall, Remembers};
@@ -19,6 +19,8 @@ ghost use Rattle.graph.specs.Cells.{markIn};
 ghost use Rattle.graph.specs.Links.{Holds};
 ghost use Rattle.term_copy.specs.Places.{tableIn, rowsIn, copyIn, Apart};
 ghost use Rattle.term_copy.specs.Steps.{markAt, Arguments, Key, Notes, Grows, vertexFor, numberFor, CopiesNode};
+ghost use Rattle.definition.specs.Pack.{mostArity};
+ghost use Rattle.graph.specs.Places.{pairsAt};
 
 // Where copying has its tables in work: the store's index; what pattern nodes were copied to, a memo of two words each; the walk's
 // stack, two words for each; a word for each variable of the class, its graph node and one or 0; the graph's table.
@@ -46,7 +48,7 @@ pub fn copy_of(work: &[u32], l: Copying, memo: Memo, q: Pattern) -> Node
 
 // The copies of a key's arguments.
 fn gather(work: &[u32], l: Copying, memo: Memo, key: &[u32], args: &mut [u32])
-    requires { ⌜ (l .copied ≤ l .walk) × (l .walk ≤ length (now work)) × Arguments (now work) l memo (now key) × (length (now args) ≡ 16) ⌝ }
+    requires { ⌜ (l .copied ≤ l .walk) × (l .walk ≤ length (now work)) × Arguments (now work) l memo (now key) × (length (now args) ≡ mostArity) ⌝ }
     ensures { λ _. ⌜ take (length (now (key .entry)) - 1) (now (args .exit)) ≡ map (copyIn (now (work .entry)) l memo) (drop 1 (now (key .entry))) ⌝ }
 {
     let n = key.len() - 1;
@@ -70,7 +72,7 @@ fn mark_of(flex: &[u32], k: u32) -> u32
 
 // The node with a key was copied to node `x`: if it is a variable of the class, its word says so.
 fn note(work: &mut [u32], l: Copying, flex: &[u32], key: &[u32], x: Node)
-    requires { ⌜ (l .variables + length (now flex) ≤ l .graph) × (l .graph ≤ length (now work)) × (x .0 < 4294967295) × (0 < length (now key)) × (getD (now key) 0 0 ≡ variableHead → length (now key) ≡ 3) ⌝ }
+    requires { ⌜ (l .variables + length (now flex) ≤ l .graph) × (l .graph ≤ length (now work)) × (x .0 < nothing) × (0 < length (now key)) × (getD (now key) 0 0 ≡ variableHead → length (now key) ≡ 3) ⌝ }
     ensures { λ _. ⌜ Outside (l .variables) (l .graph) (now (work .entry)) (now (work .exit)) × Notes (now (work .entry)) (now (work .exit)) (now (flex .entry)) l (numberFor (now (key .entry))) (x .0) ⌝ }
 {
     if key[0] != Pattern::VAR {
@@ -93,7 +95,7 @@ fn copy_variable(
     k: u32,
     sort: u32,
 ) -> Pushed
-    requires { ⌜ (l .graph + (5 * length (now cells) + 5) ≤ length (now work)) × Holds (now cells) (rowsIn (now work) (now cells) l) g ⌝ }
+    requires { ⌜ (l .graph + pairsAt (length (now cells)) ≤ length (now work)) × Holds (now cells) (rowsIn (now work) (now cells) l) g ⌝ }
     ensures { λ r. ⌜ Grows (now (work .entry)) (now (work .exit)) (now (cells .entry)) (now (cells .exit)) l g (variableVertex sort (markAt (now (flex .entry)) k) (markIn 0)) r ⌝ }
 {
     let mark = mark_of(flex, k);
@@ -111,7 +113,7 @@ fn copy_application(
     g: Graph,
     key: &[u32],
 ) -> Pushed
-    requires { ⌜ (l .copied ≤ l .walk) × (l .walk ≤ l .graph) × (l .graph + (5 * length (now cells) + 5) ≤ length (now work)) × Holds (now cells) (rowsIn (now work) (now cells) l) g × Arguments (now work) l memo (now key) ⌝ }
+    requires { ⌜ (l .copied ≤ l .walk) × (l .walk ≤ l .graph) × (l .graph + pairsAt (length (now cells)) ≤ length (now work)) × Holds (now cells) (rowsIn (now work) (now cells) l) g × Arguments (now work) l memo (now key) ⌝ }
     ensures { λ r. ⌜ Grows (now (work .entry)) (now (work .exit)) (now (cells .entry)) (now (cells .exit)) l g (applied (getD (now (key .entry)) 0 0) (map (copyIn (now (work .entry)) l memo) (drop 1 (now (key .entry))))) r ⌝ }
 {
     let mut args = [0; Limit::ARITY];

@@ -25,7 +25,7 @@ use Rattle.memo.specs.declared.memo.Memo.{Memo}
 use Rattle.term_instance.specs.declared.tables.Instance.{Instance}
 use Rattle.term_instance.specs.declared.instance.Turn.the-variants.{Unlike}
 use Rattle.term_instance.specs.declared.instance.Matched.the-variants.{Yes, No}
-use Rattle.term_instance.specs.Pairs.{pairsIn, pairs-more}
+use Rattle.base.specs.Pairs.{pairsIn, pairs-more}
 use Rattle.term_instance.specs.Held.{Given, Kept, Memos, given-reads, given-on, below-words}
 use Rattle.term_instance.specs.Takes.{Left, Ready, TakesPair}
 use Rattle.term_instance.specs.Matches.{Matches, left-stop, left-done, Going, going-reads}

@@ -1,5 +1,4 @@
 -- The instance test: its tables in work, and the walk over them.
-pub mod Pairs
 pub mod Held
 pub mod Binds
 pub mod Pushes

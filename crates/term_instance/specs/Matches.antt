@@ -28,7 +28,7 @@ use Rattle.term_instance.specs.declared.tables.Instance.{Instance}
 use Rattle.term_instance.specs.declared.instance.Turn.the-variants.{On}
 use Rattle.term_instance.specs.declared.instance.Matched.{Matched}
 use Rattle.term_instance.specs.declared.instance.Matched.the-variants.{Yes, No}
-use Rattle.term_instance.specs.Pairs.{pairsIn, length-pairsIn}
+use Rattle.base.specs.Pairs.{pairsIn, length-pairsIn}
 use Rattle.term_instance.specs.Held.{seenAt, valueAt, Patterns, Kept, Memos, given-reads, given-on}
 use Rattle.term_instance.specs.Takes.{Left, Ready, leftWord, rightWord, TakesPair}
 

@@ -27,7 +27,7 @@ use Rattle.memo.specs.declared.memo.Memo.{Memo}
 use Rattle.term_instance.specs.declared.tables.Instance.{Instance}
 use Rattle.term_instance.specs.declared.instance.Turn.{Turn}
 use Rattle.term_instance.specs.declared.instance.Turn.the-variants.{On, Unlike}
-use Rattle.term_instance.specs.Pairs.{pairsIn, pairs-same}
+use Rattle.base.specs.Pairs.{pairsIn, pairs-same}
 use Rattle.term_instance.specs.Held.{seenAt, Given, Kept, Memos, recall-more, outside-same, given-seen, given-reads, given-ground}
 use Rattle.term_instance.specs.Pushes.{argsOf, Pushable, Pushes}
 use Rattle.term_instance.specs.Taking.{take-seen, take-other, take-unlike, take-ahead}
@@ -147,7 +147,7 @@ module _ (bytes work words : List ℕ) (c : Catalog) (l : Instance) (st : Store)
 
       -- the pairs are as they were
       mid-pairs : pairsIn (l .pairs) mid top ≡ pairsIn (l .pairs) work top
-      mid-pairs = pairs-same (l .pairs) work mid top (λ i h. W .outside .ahead i (omega (arith, Q .given .pairs, Q .room (B .bare))))
+      mid-pairs = pairs-same (l .pairs) work mid top (λ i f h. W .outside .ahead i (omega (arith, Q .given .pairs, Q .room (B .bare))))
 
       module _ (work′ : List ℕ) (on : ℕ) (A : Pushes bytes mid work′ words c l st top p n on) where
         -- what stays

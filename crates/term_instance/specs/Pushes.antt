@@ -20,7 +20,7 @@ use Rattle.store.specs.Stored.{Stored, nodes}
 use Rattle.store.specs.declared.nodes.Store.{Store}
 use Rattle.memo.specs.Lent.{lent, lent-before}
 use Rattle.term_instance.specs.declared.tables.Instance.{Instance}
-use Rattle.term_instance.specs.Pairs.{pairsIn, pairs-more}
+use Rattle.base.specs.Pairs.{pairsIn, pairs-more}
 use Rattle.term_instance.specs.Held.{outside-same}
 
 -- the arguments of a pattern

@@ -28,7 +28,7 @@ use Rattle.memo.specs.Lent.{lent-before, recall-before}
 use Rattle.term_instance.specs.declared.tables.Instance.{Instance}
 use Rattle.term_instance.specs.declared.instance.Turn.{Turn}
 use Rattle.term_instance.specs.declared.instance.Turn.the-variants.{On, Unlike}
-use Rattle.term_instance.specs.Pairs.{pairsIn, length-pairsIn, pairs-same}
+use Rattle.base.specs.Pairs.{pairsIn, length-pairsIn, pairs-same}
 use Rattle.term_instance.specs.Held.{Given, Kept, Memos, given-value}
 use Rattle.term_instance.specs.Binds.{Bindable, Gives, Binds}
 use Rattle.term_instance.specs.Pushes.{argsOf}
@@ -137,7 +137,7 @@ module _ (bytes work words : List ℕ) (c : Catalog) (l : Instance) (st : Store)
 
         -- the pairs are as they were
         bound-pairs : pairsIn (l .pairs) work′ top ≡ pairsIn (l .pairs) work top
-        bound-pairs = let H = Q .given in pairs-same (l .pairs) work work′ top (λ i h. B .0 .ahead i (omega (arith, ready-low, H .pairs, H .table)))
+        bound-pairs = let H = Q .given in pairs-same (l .pairs) work work′ top (λ i f h. B .0 .ahead i (omega (arith, ready-low, H .pairs, H .table)))
 
         -- what the definition says of the pair
         bound-turn : (P : Pack) (ss vs : List Bound)

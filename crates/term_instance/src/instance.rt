@@ -4,6 +4,7 @@ use crate::tables::Test;
 use crate::tables::put_pair;
 use base::id::Ground;
 use base::id::Pattern;
+use base::stack::Frame;
 use memo::memo::Known;
 use memo::memo::Memo;
 use memo::part::clear;
@@ -157,9 +158,9 @@ fn take_pair(pack: &[u8], work: &mut [u32], words: &[u32], s: Test, top: usize) 
     requires { ⌜ ReadyAt (now pack) (now work) (now words) s top ⌝ }
     ensures { λ t. ⌜ TakesPairAt (now (pack .entry)) (now (work .entry)) (now (work .exit)) (now (words .entry)) s top t ⌝ }
 {
-    let at = s.tables.pairs + 2 * top;
+    let at = s.tables.pairs + Frame::WORDS * top;
     let p = Pattern(work[at]);
-    let n = Ground(work[at + 1]);
+    let n = Ground(work[at + Frame::SECOND]);
     let a = s.tables.index;
     let e = s.tables.pairs;
     let head = s.store.head(&work[a..e], words, p);

@@ -1,6 +1,7 @@
 // Where the instance test has its tables, and the worklist's pairs.
 use base::id::Ground;
 use base::id::Pattern;
+use base::stack::Frame;
 use memo::memo::Memo;
 use pack_tables::catalog::Catalog;
 use store::nodes::Store;
@@ -33,7 +34,7 @@ pub fn put_pair(work: &mut [u32], l: Instance, top: usize, p: Pattern, n: Ground
     requires { ⌜ l .pairs + 2 * top + 1 < length (now work) ⌝ }
     ensures { λ _. ⌜ now (work .exit) ≡ set (set (now (work .entry)) (l .pairs + 2 * top) (p .0)) (l .pairs + 2 * top + 1) (n .0) ⌝ }
 {
-    let at = l.pairs + 2 * top;
+    let at = l.pairs + Frame::WORDS * top;
     work[at] = p.0;
-    work[at + 1] = n.0;
+    work[at + Frame::SECOND] = n.0;
 }

@@ -6,3 +6,5 @@ pub mod Keys
 pub mod Nodes
 pub mod Turns
 pub mod Runs
+-- A key interned, and words written elsewhere: what was lifted is still.
+pub mod Kept

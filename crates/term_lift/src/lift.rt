@@ -2,6 +2,7 @@
 use base::id::Ground;
 use base::id::Pattern;
 use base::limit::Limit;
+use base::stack::Frame;
 use buffer::zero::zero_words;
 use pack_read::node::node_argument;
 use pack_read::node::node_arity;
@@ -15,6 +16,8 @@ ghost use lib.Dec.{eqb, ltb};
 ghost use lib.ListN.{length, getD, set};
 ghost use Rattle.definition.specs.Test.{_and_};
 ghost use Rattle.term_lift.specs.Lifts.{Clears, Lifts, Laid, Ripe, Keyed, Finishes, Running, Advances, Answers};
+ghost use Rattle.definition.specs.Store.{nothing};
+ghost use Rattle.definition.specs.Pack.{mostArity};
 
 // Where lifting has its tables in work: a word for each ground node, its pattern and one or 0; behind them the walk's stack, two words
 // for each; then the store's index, up to `end`.
@@ -59,17 +62,17 @@ fn passes(work: &[u32], l: Lifted, n: usize, taken: usize) -> bool
 
 // One argument more is taken by the frame at `at`, and `a` gets a frame above it.
 fn enter(work: &mut [u32], at: usize, taken: u32, a: u32)
-    requires { ⌜ (at + 3 < length (now work)) × (taken < 4294967295) ⌝ }
+    requires { ⌜ (at + 3 < length (now work)) × (taken < nothing) ⌝ }
     ensures { λ _. ⌜ now (work .exit) ≡ set (set (set (now (work .entry)) (at + 1) (taken + 1)) (at + 2) a) (at + 3) 0 ⌝ }
 {
-    work[at + 1] = taken + 1;
-    work[at + 2] = a;
-    work[at + 3] = 0;
+    work[at + Frame::TAKEN] = taken + 1;
+    work[at + Frame::WORDS] = a;
+    work[at + Frame::NEXT_TAKEN] = 0;
 }
 
 // The head of node `n`, then what its arguments were lifted to; how many words these are. What stands behind them is left open.
 fn key_of(pack: &[u8], work: &[u32], c: Catalog, l: Lifted, n: Ground, key: &mut [u32]) -> usize
-    requires { ⌜ Ripe (now pack) (now work) c l (n .0) × (length (now key) ≡ 17) ⌝ }
+    requires { ⌜ Ripe (now pack) (now work) c l (n .0) × (length (now key) ≡ mostArity + 1) ⌝ }
     ensures { λ r. ⌜ Keyed (now (pack .entry)) (now (work .entry)) c l (n .0) (now (key .exit)) r ⌝ }
 {
     let at = l.at;
@@ -125,9 +128,9 @@ fn advance(
     requires { ⌜ Running (now pack) (now work) (now words) c l st (suc top) ⌝ }
     ensures { λ r. ⌜ Advances (now (pack .entry)) (now (work .entry)) (now (words .entry)) (now (work .exit)) (now (words .exit)) c l st top r ⌝ }
 {
-    let at = l.at + l.nodes + 2 * top;
+    let at = l.at + l.nodes + Frame::WORDS * top;
     let n = Ground(work[at]);
-    let taken = work[at + 1];
+    let taken = work[at + Frame::TAKEN];
     if passes(work, l, n.0 as usize, taken as usize) {
         return Turn::On(top, st);
     }
@@ -157,7 +160,7 @@ pub fn lift(
 {
     let base = l.at + l.nodes;
     work[base] = n.0;
-    work[base + 1] = 0;
+    work[base + Frame::TAKEN] = 0;
     let mut top: usize = 1;
     let mut grown = st;
     while 0 < top {

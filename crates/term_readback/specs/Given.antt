@@ -36,7 +36,7 @@ use Rattle.graph.specs.Cells.{rowsEnd, shows-rows}
 use Rattle.graph.specs.Nodes.{SortOf}
 use Rattle.term_readback.specs.declared.table.Table.{Table}
 use Rattle.term_readback.specs.Words.{valuesAt, patternsAt, numbersAt, tableEnd, tableIn, marksIn, Says, Lies, Holding, Framed}
-use Rattle.term_readback.specs.Kept.{lifts-on}
+use Rattle.term_lift.specs.Kept.{lifts-on}
 use Rattle.term_readback.specs.Moved.{taken-most, table-at, table-long, nodes-most, table-room, table-apart, lies-apart}
 use Rattle.term_readback.specs.Asked.{graph-long}
 use Rattle.term_readback.specs.Keys.{patternOf}

@@ -26,7 +26,7 @@ use Rattle.graph.specs.Cells.{rowsEnd, Shows, nodes-few, rows-set, shows-rows}
 use Rattle.graph.specs.Links.{Found}
 use Rattle.term_readback.specs.declared.table.Table.{Table}
 use Rattle.term_readback.specs.Words.{valuesAt, patternsAt, numbersAt, tableEnd, tableIn, marksIn, Stands, Says, Lies, Holding, Framed, Moves}
-use Rattle.term_readback.specs.Kept.{lifts-on}
+use Rattle.term_lift.specs.Kept.{lifts-on}
 
 -- a word of the table
 pub table-at : (t : Table) (work : List ℕ) (i : ℕ) → i < t .end - t .at → getD (tableIn t work) i 0 ≡ getD work (t .at + i) 0

@@ -31,7 +31,7 @@ use Rattle.graph.specs.Cells.{rowsEnd}
 use Rattle.term_readback.specs.declared.table.Table.{Table}
 use Rattle.term_readback.specs.declared.root.Resolved.the-variants as read
 use Rattle.term_readback.specs.Words.{valuesAt, patternsAt, numbersAt, tableIn, marksIn, Holding}
-use Rattle.term_readback.specs.Kept.{number-fits}
+use Rattle.term_lift.specs.Kept.{number-fits}
 use Rattle.term_readback.specs.Moved.{table-set, table-long, framed-then}
 use Rattle.term_readback.specs.Roots.{Open, Any, Opening, readsAs, Given, Gives, Notes}
 use Rattle.term_readback.specs.Given.{unread-word, node-given, node-few, lies-set, framed-set}

@@ -33,7 +33,7 @@ use Rattle.term_readback.specs.declared.table.Table.{Table}
 use Rattle.term_readback.specs.declared.root.Resolved.{Resolved}
 use Rattle.term_readback.specs.declared.root.Resolved.the-variants as read
 use Rattle.term_readback.specs.Words.{valuesAt, patternsAt, numbersAt, tableEnd, tableIn, Lies, Holding, Framed}
-use Rattle.term_readback.specs.Kept.{Indexed, Interns}
+use Rattle.term_lift.specs.Kept.{Indexed, Interns}
 use Rattle.term_readback.specs.Moved.{table-set, table-long, framed-moves, holding-moves, table-apart, lies-apart, framed-apart, framed-then}
 use Rattle.term_readback.specs.Asked.{Asking, finds-moves, finds-word, graph-long}
 use Rattle.term_readback.specs.Keys.{Ripe, Keyed}

@@ -9,6 +9,7 @@ use crate::table::put_word;
 use crate::table::word_at;
 use base::id::Node;
 use base::id::Pattern;
+use base::stack::Frame;
 use buffer::zero::zero_words;
 use graph::graph::Graph;
 use graph::places::pairs_at;
@@ -57,10 +58,10 @@ fn enter(work: &mut [u32], cells: &[u32], t: Table, g: Graph, top: usize, x: Nod
     ensures { λ _. ⌜ Enters (now (cells .entry)) (now (work .entry)) (now (work .exit)) t g top (x .0) taken ⌝ }
 {
     let r = argument_root(work, cells, t, g, x, taken as usize);
-    let at = pairs_at(cells) + 2 * top;
-    put_word(work, t, at + 1, taken + 1);
-    put_word(work, t, at + 2, r.0);
-    put_word(work, t, at + 3, 0);
+    let at = pairs_at(cells) + Frame::WORDS * top;
+    put_word(work, t, at + Frame::TAKEN, taken + 1);
+    put_word(work, t, at + Frame::WORDS, r.0);
+    put_word(work, t, at + Frame::NEXT_TAKEN, 0);
 }
 
 // The root of node `x`, which gets the first frame.
@@ -73,7 +74,7 @@ fn begin(work: &mut [u32], cells: &[u32], t: Table, g: Graph, x: Node) -> Node
     let r = g.find(cells, &mut work[a..e], x);
     let at = pairs_at(cells);
     put_word(work, t, at, r.0);
-    put_word(work, t, at + 1, 0);
+    put_word(work, t, at + Frame::TAKEN, 0);
     r
 }
 
@@ -92,9 +93,9 @@ fn advance(
     requires { ⌜ TurningAt (now pack) (now work) (now words) (now cells) s st numbered top ⌝ }
     ensures { λ r. ⌜ AdvancesAt (now (pack .entry)) (now (work .entry)) (now (words .entry)) (now (work .exit)) (now (words .exit)) (now (cells .entry)) s st numbered top r ⌝ }
 {
-    let at = pairs_at(cells) + 2 * top;
+    let at = pairs_at(cells) + Frame::WORDS * top;
     let x = Node(word_at(work, s.table, at));
-    let taken = word_at(work, s.table, at + 1);
+    let taken = word_at(work, s.table, at + Frame::TAKEN);
     if passes(work, cells, s.table, x, taken) {
         return Turn::On(top, st, numbered);
     }

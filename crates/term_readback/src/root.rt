@@ -1,7 +1,6 @@
 // One root read back whose arguments' roots were: a variable by its number or its ground value, an application over its arguments.
 use crate::table::Reading;
 use crate::table::Table;
-use crate::table::intern_key;
 use crate::table::key_of;
 use crate::table::numbers;
 use crate::table::put_word;
@@ -18,6 +17,7 @@ use graph::places::values_at;
 use pack_tables::catalog::Catalog;
 use store::nodes::Interned;
 use store::nodes::Store;
+use term_lift::intern::intern_key;
 use term_lift::lift::Lifted;
 use term_lift::lift::lift;
 ghost use Rattle.term_readback.specs.Roots.{Variable, Any, Naming, Names, Valuing, Values, Applying, Applies};

@@ -4,16 +4,14 @@ use base::id::Pattern;
 use graph::graph::Graph;
 use graph::places::patterns_at;
 use pack_tables::catalog::Catalog;
-use store::nodes::Interned;
-use store::nodes::Store;
 use term_lift::lift::Lifted;
 ghost use mathlib.Core.Path.{_≡_};
 ghost use Prim.Native.Nat.{_+_, _-_, _≤_, _<_};
 ghost use lib.ListN.{length, getD, set};
 ghost use Rattle.term_readback.specs.Words.{tableIn};
-ghost use Rattle.term_readback.specs.Kept.{Indexed, Interns};
 ghost use Rattle.term_readback.specs.Asked.{Asking, Arguing, Rooted, CountOf, NumbersOf};
 ghost use Rattle.term_readback.specs.Keys.{Ripe, Keyed};
+ghost use Rattle.definition.specs.Pack.{mostArity};
 
 // Where the graph's table stands in work: rows, behind them the pairs, here the walk's stack, behind these a colour for each node, then
 // for each its ground value and one or 0, then the pattern that it was read back as and one or 0, then the variable of each number.
@@ -58,22 +56,6 @@ pub fn said(word: u32) -> u32
         return 0;
     }
     word - 1
-}
-
-// The node of `key` in the store: its number, and the store that has it; or that there is no room for it.
-pub fn intern_key(
-    work: &mut [u32],
-    words: &mut [u32],
-    l: Lifted,
-    st: Store,
-    key: &[u32],
-) -> Interned
-    requires { ⌜ Indexed (now work) (now words) l st × (0 < length (now key)) ⌝ }
-    ensures { λ r. ⌜ Interns (now (work .entry)) (now (words .entry)) (now (work .exit)) (now (words .exit)) l st (now (key .entry)) r ⌝ }
-{
-    let from = l.at + Lifted::NODE * l.nodes;
-    let end = l.end;
-    st.intern(&mut work[from..end], words, key)
 }
 
 // How many arguments' roots are to be read back ahead of root `x`: a variable has none.
@@ -122,7 +104,7 @@ pub fn key_of(
     x: Node,
     key: &mut [u32],
 ) -> usize
-    requires { ⌜ Ripe (now cells) (now work) t g (x .0) × (length (now key) ≡ 17) ⌝ }
+    requires { ⌜ Ripe (now cells) (now work) t g (x .0) × (length (now key) ≡ mostArity + 1) ⌝ }
     ensures { λ r. ⌜ Keyed (now (cells .entry)) (now (work .entry)) (now (work .exit)) t g (x .0) (now (key .exit)) r ⌝ }
 {
     let a = t.at;

@@ -20,7 +20,7 @@ use Rattle.theory.specs.Walks.Ahead.{beside, lefts, rights}
 use Rattle.theory.specs.Walks.Valuing.{valuing, pairsLeft, total-cells, left-most}
 use Rattle.graph.specs.declared.graph.Graph.{Graph as Counts}
 use Rattle.graph.specs.Cells.{rowsEnd}
-use Rattle.graph.specs.Stack.{pairsIn, pairs-more}
+use Rattle.base.specs.Pairs.{pairsIn, pairs-more}
 use Rattle.graph.specs.Pushes.{cells-shown}
 use Rattle.graph.specs.Inner.{many-nodes}
 use Rattle.term_values.specs.declared.values.Valued.{Valued}

@@ -25,7 +25,7 @@ use Rattle.graph.specs.declared.graph.Graph.{Graph as Counts}
 use Rattle.graph.specs.Cells.{rowsEnd, Shows, rows-set, shows-rows}
 use Rattle.graph.specs.Joins.{HeadOf, head-variable, head-other}
 use Rattle.graph.specs.Nodes.{ArityOf}
-use Rattle.graph.specs.Stack.{pairsIn, pairs-kept}
+use Rattle.base.specs.Pairs.{pairsIn, pairs-kept}
 use Rattle.term_values.specs.declared.values.Valued.{Valued}
 use Rattle.term_values.specs.declared.values.Known.the-variants.{Nothing}
 use Rattle.term_values.specs.declared.fix.Turn.{Turn}

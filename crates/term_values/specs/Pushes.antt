@@ -20,7 +20,7 @@ use Rattle.theory.specs.Walks.Ahead.{beside, ahead, ahead-turn, ahead-all, ahea
 use Rattle.graph.specs.declared.graph.Graph.{Graph as Counts}
 use Rattle.graph.specs.Cells.{startIn, rowsEnd}
 use Rattle.graph.specs.Nodes.{ArityOf, ArgumentOf, argument-there}
-use Rattle.graph.specs.Stack.{pairsIn, pairs-more}
+use Rattle.base.specs.Pairs.{pairsIn, pairs-more}
 use Rattle.term_values.specs.declared.values.Valued.{Valued}
 use Rattle.term_values.specs.Stores.{PutsPair}
 
@@ -117,11 +117,11 @@ module _ (bytes before words : List ℕ) (c : Catalog) (l : Valued) (s : Counts)
                 let second = stands-pair words (set table at x) s h vs first (at + 1) m (omega arith) (omega (arith, pushing-room)) in
                 let e : on + 1 ≡ suc on = omega arith in
                 let f : suc (i - 1) ≡ i = omega arith in
-                let long : rowsEnd words + 2 * on + 2 ≤ length table = omega (arith, table-room words work l (pushing-values .placed), pushing-room) in (
+                let long : rowsEnd words + 2 * on + 1 < length table = omega (arith, table-room words work l (pushing-values .placed), pushing-room) in (
                   subst (λ (u : List ℕ). Stands words u s h vs) (sym (W .0)) second,
                   ap (λ (u : List ℕ). ahead (take (i - 1) xs) (take (i - 1) ns) (pairsIn (rowsEnd words) u (on + 1))) (W .0)
                       ∙ ap (λ (v : List Pair). ahead (take (i - 1) xs) (take (i - 1) ns) v)
-                      (ap (pairsIn (rowsEnd words) (set (set table at x) (at + 1) m)) e ∙ pairs-more (rowsEnd words) table on x m long ∙ ap₂ (λ (a b : ℕ). beside a b ∷ w) (A h (t .0 .shows)) (B P (reads-now P R)))
+                      (ap (pairsIn (rowsEnd words) (set (set table at x) (at + 1) m)) e ∙ pairs-more (rowsEnd words) table on x m (omega (arith, long)) ∙ ap₂ (λ (a b : ℕ). beside a b ∷ w) (A h (t .0 .shows)) (B P (reads-now P R)))
                       ∙ ahead-turn xs ns (i - 1) w (omega (arith, Q .arity h (S .shows), K .low)) (omega (arith, Q .many P R, K .low))
                       ∙ ap (λ (j : ℕ). ahead (take j xs) (take j ns) w) f
                       ∙ t .1,

@@ -22,7 +22,8 @@ use Rattle.theory.specs.Walks.Ahead.{lefts, rights}
 use Rattle.theory.specs.Walks.Valuing.{valuing, takeValue, pairsLeft}
 use Rattle.graph.specs.declared.graph.Graph.{Graph as Counts}
 use Rattle.graph.specs.Cells.{rowsEnd}
-use Rattle.graph.specs.Stack.{leftWord, rightWord, pairsIn, length-pairsIn, pairs-same}
+use Rattle.base.specs.Pairs.{pairsIn, length-pairsIn}
+use Rattle.graph.specs.Stack.{leftWord, rightWord, pairs-same}
 use Rattle.graph.specs.Inner.{many-nodes}
 use Rattle.term_values.specs.declared.values.Valued.{Valued}
 use Rattle.term_values.specs.declared.values.Known.the-variants.{Nothing}

@@ -19,7 +19,8 @@ use Rattle.theory.specs.Walks.Ahead.{beside}
 use Rattle.theory.specs.Walks.Valuing.{valuing, takeValue, Taken, take-says}
 use Rattle.graph.specs.declared.graph.Graph.{Graph as Counts}
 use Rattle.graph.specs.Cells.{markIn, graphIn, rowsEnd}
-use Rattle.graph.specs.Stack.{leftWord, rightWord, pairsIn, length-pairsIn}
+use Rattle.base.specs.Pairs.{pairsIn, length-pairsIn}
+use Rattle.graph.specs.Stack.{leftWord, rightWord}
 use Rattle.graph.specs.Inner.{many-nodes}
 use Rattle.term_values.specs.Words.{valuesAt, Stands}
 use Rattle.term_values.specs.Taking.{take-rights}

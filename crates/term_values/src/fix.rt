@@ -8,6 +8,7 @@ use crate::values::value;
 use base::id::Ground;
 use base::id::Node;
 use base::id::Pattern;
+use base::stack::Frame;
 use graph::graph::Graph;
 use graph::places::pairs_at;
 use pack_read::node::node_argument;
@@ -112,9 +113,9 @@ fn take_value(
     requires { ⌜ Ready (now pack) (now work) (now cells) c l g top ⌝ }
     ensures { λ t. ⌜ Takes (now (pack .entry)) (now (work .entry)) (now (work .exit)) (now (cells .entry)) c l g top t ⌝ }
 {
-    let at = l.at + pairs_at(cells) + 2 * top;
+    let at = l.at + pairs_at(cells) + Frame::WORDS * top;
     let x = Node(work[at]);
-    let n = Ground(work[at + 1]);
+    let n = Ground(work[at + Frame::SECOND]);
     let r = root(work, cells, l, g, x);
     match value(work, cells, l, r) {
         Known::Is(m) => {

@@ -1,6 +1,7 @@
 // The words that the values stand in, and the table that they stand behind.
 use base::id::Ground;
 use base::id::Node;
+use base::stack::Frame;
 use buffer::zero::zero_words;
 use graph::graph::Graph;
 use graph::places::pairs_at;
@@ -10,6 +11,7 @@ ghost use lib.ListN.{length};
 ghost use Rattle.graph.specs.Links.{Holds};
 ghost use Rattle.term_values.specs.Words.{tableIn, Placed};
 ghost use Rattle.term_values.specs.Stores.{ValueIs, PutsValue, PutsPair, FindsRoot, Clears};
+ghost use Rattle.definition.specs.Store.{nothing};
 
 // Where the graph's table stands in work: rows, behind them the pairs, behind these a colour for each node, and behind these a word
 // for each node, its ground value and one or 0.
@@ -39,7 +41,7 @@ pub fn value(work: &[u32], cells: &[u32], l: Valued, x: Node) -> Known
 
 // Node `x` has the value `n` from now on.
 pub fn put_value(work: &mut [u32], cells: &[u32], l: Valued, x: Node, n: Ground)
-    requires { ⌜ Placed (now cells) (now work) l × (x .0 < length (now cells)) × (n .0 < 4294967295) ⌝ }
+    requires { ⌜ Placed (now cells) (now work) l × (x .0 < length (now cells)) × (n .0 < nothing) ⌝ }
     ensures { λ _. ⌜ PutsValue (now (cells .entry)) (now (work .entry)) (now (work .exit)) l (x .0) (n .0) ⌝ }
 {
     let at = l.at + values_at(cells) + x.0 as usize;
@@ -51,9 +53,9 @@ pub fn put_pair(work: &mut [u32], cells: &[u32], l: Valued, top: usize, x: Node,
     requires { ⌜ Placed (now cells) (now work) l × (top ≤ length (now cells)) ⌝ }
     ensures { λ _. ⌜ PutsPair (now (cells .entry)) (now (work .entry)) (now (work .exit)) l top (x .0) (n .0) ⌝ }
 {
-    let at = l.at + pairs_at(cells) + 2 * top;
+    let at = l.at + pairs_at(cells) + Frame::WORDS * top;
     work[at] = x.0;
-    work[at + 1] = n.0;
+    work[at + Frame::SECOND] = n.0;
 }
 
 // The root of node `x`.

@@ -1,9 +1,9 @@
 -- `intern_key` meets its contract.
 use borrow.Author.Needs.{needs}
 use Rattle.base.specs.Part.{part}
-use Rattle.term_readback.specs.Kept.{interns}
-use Rattle.term_readback.proofs.table.intern_key.Statement.{statement}
-use Rattle.term_readback.proofs.table.intern_key.Tie as tie
+use Rattle.term_lift.specs.Kept.{interns}
+use Rattle.term_lift.proofs.intern.intern_key.Statement.{statement}
+use Rattle.term_lift.proofs.intern.intern_key.Tie as tie
 
 intern-requires : tie.Need-intern-requires
 unfolding part
