@@ -1,6 +1,6 @@
 -- One goal after the other: with each that is met the goals left give what all give.
 use mathlib.Core.Path.{_≡_}
-use mathlib.Core.List.{List}
+use mathlib.Core.List.{List, [], _∷_, _++_}
 use Prim.Native.Nat.{ℕ, _+_, _≤_, _<_}
 use native.Mathlib.Omega.{arith}
 use lib.ListN.{length}
@@ -41,7 +41,7 @@ TestsEach bytes work work′ class words c k l t st (answers.Other s) =
 -- the words ahead of the tables are as they were, and the goals from g on give all
 pub record Going (bytes work work′ class words : List ℕ) (c : Catalog) (k : Keying) (l : Layout) (t : Instance) (st : Store) (seen values : Memo) (g : ℕ) : Type 0 where
   pub kept : Kept t seen values work work′
-  pub left : OfReady bytes work class words c k l t st (λ P b. Left P b g)
+  pub left : OfReady bytes work class words c k l t st (λ P b. (done : List Root) × Left P b g done)
 
 module _ (bytes work class words : List ℕ) (c : Catalog) (k : Keying) (l : Layout) (t : Instance) (st : Store) (seen₀ values₀ : Memo) (T : Testable bytes work class words c k l t st seen₀ values₀) where
   -- a goal that is recorded is the pack's
@@ -52,7 +52,7 @@ module _ (bytes work class words : List ℕ) (c : Catalog) (k : Keying) (l : Lay
   pub going-none : Going bytes work work class words c k l t st seen₀ values₀ 0
   going-none = record {
     kept = record { outside = outside-none (t .pairs) (t .end) work; seen-kept = T .given .seen-kept; values-kept = T .given .values-kept };
-    left = λ P b R. left-all P b;
+    left = λ P b R. ([], left-all P b);
   }
 
   module _ (work′ : List ℕ) (seen values : Memo) (g : ℕ) (G : Going bytes work work′ class words c k l t st seen values g) where
@@ -77,26 +77,32 @@ module _ (bytes work class words : List ℕ) (c : Catalog) (k : Keying) (l : Lay
 
     -- none is left
     pub going-met : length (recordsOf work c 5) ≤ g → TestsEach bytes work work′ class words c k l t st (answers.Met seen values)
-    going-met h = (G .kept, λ P b R. left-end P b g (G .left P b R) (omega (arith, h, length-goals bytes (recordsOf work c) P (R .reads))))
+    going-met h = (
+      G .kept,
+      λ P b R. (G .left P b R .0, left-end P b g (G .left P b R .0) (G .left P b R .1) (omega (arith, h, length-goals bytes (recordsOf work c) P (R .reads)))),
+    )
 
     module _ (h : g < length (recordsOf work c 5)) (work″ : List ℕ) where
       -- it is met
-      pub going-on : (seen′ values′ : Memo) → TestsOne bytes work′ work″ class words c k l t st g (one.Met seen′ values′) → Going bytes work work″ class words c k l t st seen′ values′ (g + 1)
-      going-on seen′ values′ N = record {
+      pub going-on : (seen′ values′ : Memo) (row : ℕ) → TestsOne bytes work′ work″ class words c k l t st g (one.Met seen′ values′ row) → Going bytes work work″ class words c k l t st seen′ values′ (g + 1)
+      going-on seen′ values′ row N = record {
         kept = record { outside = outside-then (t .pairs) (t .end) work work′ work″ (G .kept .outside) (N .0 .outside); seen-kept = N .0 .seen-kept; values-kept = N .0 .values-kept };
-        left = λ P b R. let D = N .1 P b (going-read P b R) in left-on P b g (G .left P b R) (goal-given g h P b R) (D .0) (λ L. D .1 g L);
+        left = λ P b R.
+            let D = N .1 P b (going-read P b R) in
+            let K = G .left P b R in
+            (K .0 ++ (D .0 ∷ []), left-on P b g (K .0) (K .1) (goal-given g h P b R) (D .0) (λ L. D .1 g L));
       }
 
       -- it has no result, or one with another judgment
       pub going-unmet : TestsOne bytes work′ work″ class words c k l t st g one.Unmet → TestsEach bytes work work″ class words c k l t st (answers.Unmet g)
       going-unmet N = (
         outside-then (t .pairs) (t .end) work work′ work″ (G .kept .outside) (N .0),
-        λ P b R L. left-refused P b g (G .left P b R) (goal-given g h P b R) L (Unmet g) (N .1 P b (going-read P b R) g L),
+        λ P b R L. left-refused P b g (G .left P b R .0) (G .left P b R .1) (goal-given g h P b R) L (Unmet g) (N .1 P b (going-read P b R) g L),
       )
 
       -- its judgment is no instance
       pub going-other : (s : ℕ) → TestsOne bytes work′ work″ class words c k l t st g (one.Other s) → TestsEach bytes work work″ class words c k l t st (answers.Other s)
       going-other s N = (
         outside-then (t .pairs) (t .end) work work′ work″ (G .kept .outside) (N .0),
-        λ P b R L. left-refused P b g (G .left P b R) (goal-given g h P b R) L (Unlike s) (N .1 P b (going-read P b R) g L),
+        λ P b R L. left-refused P b g (G .left P b R .0) (G .left P b R .1) (goal-given g h P b R) L (Unlike s) (N .1 P b (going-read P b R) g L),
       )

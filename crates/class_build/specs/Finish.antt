@@ -43,11 +43,21 @@ module _ (bytes work class words cells : List ℕ) (c : Catalog) (k : Keying) (l
       let few = pattern-fits bytes work class words cells c k l r st (E .memo) fill (T .pack) (T .built) S in
       (S .placed .laid .index, omega (arith, T .room, few, p .used, p .len, words-most (nodes words st)))
 
-  -- the goals may be tested
-  pub tests-made : (i : Instance) → i ≡ testTables (length cells) l st → Made bytes work class words c k l i st
-  tests-made i e =
+  -- behind them there is room for a stack of the store's nodes, and for one of the pack's
+  pub stack-fits : (i : Instance) → i ≡ testTables (length cells) l st → (i .end + 2 * st .len ≤ length work) × (i .end + 2 * l .nodes ≤ length work)
+  stack-fits i e =
+      let q : i .end ≡ testTables (length cells) l st .end = ap (λ (j : Instance). j .end) e in
       let E = T .ended in
-      subst (λ (j : Instance). Made bytes work class words c k l j st) (sym e) (record {
+      let S = E .standing in
+      let p = S .lifts .laid .index .placed in
+      let few = pattern-fits bytes work class words cells c k l r st (E .memo) fill (T .pack) (T .built) S in
+      (omega (arith, q, T .room, few, p .used, p .len, words-most (nodes words st)), omega (arith, q, T .room, few, p .used, p .len, words-most (nodes words st)))
+
+  -- the goals may be tested, with these tables
+  abbrev pub tables-made : Made bytes work class words c k l (testTables (length cells) l st) st
+  tables-made =
+      let E = T .ended in
+      record {
         cells = cells;
         counts = r;
         memo = E .memo;
@@ -66,7 +76,10 @@ module _ (bytes work class words cells : List ℕ) (c : Catalog) (k : Keying) (l
           numbers = E .standing .numbers;
           values = omega arith;
         };
-      })
+      }
+
+  pub tests-made : (i : Instance) → i ≡ testTables (length cells) l st → Made bytes work class words c k l i st
+  tests-made i e = subst (λ (j : Instance). Made bytes work class words c k l j st) (sym e) tables-made
 
   -- the counts of the classes stand there
   pub counts-there : (work′ : List ℕ) → length work′ ≡ length work → k .at + 2 * k .cap + r .classes ≤ length work′
@@ -77,15 +90,15 @@ module _ (bytes work class words cells : List ℕ) (c : Catalog) (k : Keying) (l
 
 -- the figures are the definition's
 module _ (bytes work class words cells : List ℕ) (c : Catalog) (k : Keying) (l : Layout) (r : Counts) (st : Store) (fill : ℕ) (t : Counted) (P : Pack) (b : Built)
-    (E : Ended bytes work class words cells c k l r st fill t P b) (i : Instance) (e : i ≡ testTables (length cells) l st) (work′ : List ℕ) (O : Outside (i .pairs) (i .end) work work′) where
+    (E : Ended bytes work class words cells c k l r st fill t P b) (i : Instance) (e : i ≡ testTables (length cells) l st) (work′ : List ℕ) (U : Upto (i .pairs) work work′) where
   -- the keys are as they were
   keys-stay : Upto (endOf k) work work′
   keys-stay =
       let S = E .standing in
       let q : i .pairs ≡ l .copied = ap (λ (j : Instance). j .pairs) e in
-      upto-outside (endOf k) (i .pairs) (i .end) work work′ (omega (arith, q, S .placed .behind, S .placed .rows, S .placed .laid .index)) O
+      record { long = U .long; words = λ j h. U .words j (omega (arith, q, S .placed .behind, S .placed .rows, S .placed .laid .index)) }
 
-  keyed-still : KeyedIn P work′ class k r
+  pub keyed-still : KeyedIn P work′ class k r
   keyed-still =
       let S = E .standing in
       let behind = standing-behind bytes work class words cells c k l r st (E .memo) fill P b S in

@@ -1,10 +1,11 @@
--- Class building part by part: all classes, then the goals; all made ready, then all classes.
-use mathlib.Core.Path.{_≡_, refl, sym, _∙_, subst}
+-- Class building part by part: all made ready, then all classes, then the goals.
+use mathlib.Core.Path.{_≡_, refl, sym, ap, _∙_, subst}
 use mathlib.Core.List.{List}
 use Prim.Native.Nat.{ℕ, _<_}
 use native.Mathlib.Omega.{arith}
 use lib.ListN.{length}
 use Rattle.definition.specs.Pack.{Pack}
+use Rattle.definition.specs.Answer.{Lent}
 use Rattle.definition.specs.declared.Refusal.{Refusal}
 use Rattle.definition.specs.declared.Refusal.the-variants as refusals
 use Rattle.memo.specs.declared.memo.Memo.{Memo}
@@ -16,6 +17,7 @@ use Rattle.class_keys.specs.declared.classes.Keying.{Keying}
 use Rattle.class_keys.specs.declared.classes.Counts.{Counts}
 use Rattle.class_premises.specs.declared.layout.Layout.{Layout}
 use Rattle.class_premises.specs.Standing.{Standing, standing-held}
+use Rattle.class_rule.specs.Done.{Lends}
 use Rattle.class_all.specs.All as all
 use Rattle.class_premises.specs.declared.building.Building.{Building}
 use Rattle.class_premises.specs.declared.building.Counted.{Counted}
@@ -24,11 +26,13 @@ use Rattle.class_premises.specs.Buffers.{lent}
 use Rattle.class_build.specs.Ready.{Opened, Readies, Starts, unbuilt}
 use Rattle.class_build.specs.declared.ready.Ready.the-variants as ready
 use Rattle.class_build.specs.LeftWords.{class-words, class-fits, pattern-words, pattern-fits}
-use Rattle.class_build.specs.Build.{Ended, TestingIn, Ends, EndsIn, Begun, Beginning, Goes, Builds, run-unbuilt, run-untested, run-done}
+use Rattle.class_build.specs.Build.{Ended, TestingIn, EndsIn, Begun, Beginning, Goes, BuildsClasses, Builds, run-unbuilt, run-untested, run-done}
 use Rattle.class_build.specs.declared.build.Answer.{Answer}
 use Rattle.class_build.specs.declared.build.Answer.the-variants as answers
+use Rattle.class_build.specs.declared.build.Classes.{Classes}
+use Rattle.class_build.specs.declared.build.Classes.the-variants as made
 
--- ---- all classes, then the goals
+-- ---- all classes from the first on
 module _ (bytes work class words cells : List ℕ) (c : Catalog) (k : Keying) (l : Layout) (r : Counts) (st : Store) (memo : Memo) (fill : ℕ) where
   -- as `make_classes` asks
   begins : (P : Pack) → Begun bytes work class words cells c k l r st memo fill P → all.Begins bytes work class words cells c k l r st memo (r .classes) fill P (unbuilt P)
@@ -37,11 +41,11 @@ module _ (bytes work class words cells : List ℕ) (c : Catalog) (k : Keying) (l
   pub begins-classes : Beginning bytes work class words cells c k l r st memo fill → all.Beginning bytes work class words cells c k l st memo (r .classes) fill
   begins-classes K = record { counts = r; pack = K .pack; built = unbuilt (K .pack); begins = begins (K .pack) (K .begun); small-cells = K .small-cells; small = K .small-class }
 
-  -- none is made
-  pub goes-unbuilt : (work′ class′ words′ cells′ : List ℕ) (x : Refusal) → all.Builds bytes work class words cells work′ class′ words′ cells′ c k l st memo (r .classes) fill (classes.Refused x) → Goes bytes work class words cells class′ words′ c k l r st memo fill (answers.Refused x)
-  goes-unbuilt work′ class′ words′ cells′ x B P S same L e = run-unbuilt L P x (same L (e .class-long) ∙ B r P (unbuilt P) (begins P S) L e)
+  -- one is refused
+  pub goes-unbuilt : (work′ class′ words′ cells′ : List ℕ) (x : Refusal) → all.Builds bytes work class words cells work′ class′ words′ cells′ c k l st memo (r .classes) fill (classes.Refused x) → Goes bytes work class words cells work′ class′ words′ cells′ c k l r st memo fill (made.Refused x)
+  goes-unbuilt work′ class′ words′ cells′ x B P S same L e = same L (e .class-long) ∙ B r P (unbuilt P) (begins P S) L e
 
-  -- all are
+  -- all are made
   module _ (work′ class′ words′ cells′ : List ℕ) (s : Building) (t : Counted)
       (B : all.Builds bytes work class words cells work′ class′ words′ cells′ c k l st memo (r .classes) fill (classes.Made s t)) where
     done : (P : Pack) → Begun bytes work class words cells c k l r st memo fill P → all.AllDone class words cells bytes work′ class′ words′ cells′ c k l r (s .store) (s .memo) (s .fill) t P (unbuilt P)
@@ -51,37 +55,30 @@ module _ (bytes work class words cells : List ℕ) (c : Catalog) (k : Keying) (l
     ended P S = let D = done P S in record { memo = s .memo; standing = D .standing; all = D .all; summed = D .sums }
 
     -- the goals may be tested
-    pub goes-testing : Beginning bytes work class words cells c k l r st memo fill → length words′ ≡ length words → length cells′ ≡ length cells → TestingIn (lent bytes class′ words′ cells′ work′) s r t
-    goes-testing K w z =
+    testing : Beginning bytes work class words cells c k l r st memo fill → length words′ ≡ length words → length cells′ ≡ length cells → TestingIn (lent bytes class′ words′ cells′ work′) s r t
+    testing K w z =
         subst (λ (x : Building). TestingIn (lent bytes class′ words′ cells′ work′) x r t) (sym (B .0))
         (record { pack = K .pack; built = done (K .pack) (K .begun) .built; ended = ended (K .pack) (K .begun); room = omega (arith, K .room, w, z, B .3 .long) })
 
-    -- what they come to
-    by-answer : (a : Answer) → Ends bytes work′ class′ words′ cells′ c k l r (s .store) (s .fill) t a → Goes bytes work class words cells class′ words′ c k l r st memo fill a
-    by-answer (answers.Done n m f) N = λ P S same.
-        let D = done P S in
-        let G = N .2 P (D .built) (ended P S) in
-        let W = D .standing in
-        record {
-          built = D .built;
-          roots = G .0;
-          is = λ L e. run-done L P (D .built) (same L (e .class-long) ∙ D .is L e) (G .0) (G .1 L);
-          classes = rw (N .0) (class-words bytes work′ class′ words′ cells′ c k l r (s .store) (s .memo) (s .fill) P (D .built) W);
-          classes-fit = omega (arith, N .0, class-fits bytes work′ class′ words′ cells′ c k l r (s .store) (s .memo) (s .fill) P (D .built) W);
-          patterns = rw (N .1) (pattern-words bytes work′ class′ words′ cells′ c k l r (s .store) (s .memo) (s .fill) P (D .built) W);
-          patterns-fit = omega (arith, N .1, pattern-fits bytes work′ class′ words′ cells′ c k l r (s .store) (s .memo) (s .fill) P (D .built) W);
-          counted = G .2;
-        }
-    by-answer (answers.Refused x) N = λ P S same L e. let D = done P S in run-untested L P (D .built) (same L (e .class-long) ∙ D .is L e) x (N P (D .built) (ended P S) L)
-
-    pub goes-ended : (a : Answer) → EndsIn (lent bytes class′ words′ cells′ work′) s r t a → Goes bytes work class words cells class′ words′ c k l r st memo fill a
-    goes-ended a N = by-answer a (subst (λ (x : Building). EndsIn (lent bytes class′ words′ cells′ work′) x r t a) (B .0) N)
+    pub goes-made : Beginning bytes work class words cells c k l r st memo fill → length words′ ≡ length words → length cells′ ≡ length cells → Goes bytes work class words cells work′ class′ words′ cells′ c k l r st memo fill (made.Made s r t)
+    goes-made K w z = (
+      ap (λ (x : Building). x .catalog) (B .0),
+      (λ P S same.
+          let D = done P S in
+          record {
+            built = D .built;
+            is = λ L e. same L (e .class-long) ∙ D .is L e;
+            ended = subst (λ (x : Building). Ended bytes work′ class′ words′ cells′ (x .catalog) (x .keying) (x .layout) r (x .store) (x .fill) t P (D .built)) (sym (B .0)) (ended P S);
+          }),
+      testing K w z,
+    )
 
 -- ---- all made ready, then all classes
 module _ (bytes work class words cells : List ℕ) (c : Catalog) where
   -- the class buffer is too short
-  pub builds-short : (work₁ class₁ : List ℕ) → Readies bytes work class words cells work₁ class₁ c ready.Short → (class′ words′ : List ℕ) → Builds bytes work class words cells class′ words′ c (answers.Refused (refusals.Short 1))
-  builds-short work₁ class₁ S class′ words′ P R Q L e = run-unbuilt L P (refusals.Short 1) (S P R Q .is L (e .class-long))
+  pub classes-short : (work₁ class₁ : List ℕ) → Readies bytes work class words cells work₁ class₁ c ready.Short → (work′ class′ words′ cells′ : List ℕ)
+      → BuildsClasses bytes work class words cells work′ class′ words′ cells′ c (made.Refused (refusals.Short 1))
+  classes-short work₁ class₁ S work′ class′ words′ cells′ P R Q L e = S P R Q .is L (e .class-long)
 
   module _ (work₁ class₁ : List ℕ) (k : Keying) (l : Layout) (r : Counts) (st : Store) (memo : Memo) (long : length class₁ ≡ length class) (S : Readies bytes work class words cells work₁ class₁ c (ready.On k l r st memo)) where
     -- the steps may be counted
@@ -91,6 +88,10 @@ module _ (bytes work class words cells : List ℕ) (c : Catalog) where
         let A = S .0 (H .pack) (H .reads) (H .proper) in
         (standing-held bytes work₁ class₁ words cells c k l r st memo (length (H .pack .steps)) (H .pack) (unbuilt (H .pack)) (A .standing) .cataloged .fits, omega arith)
 
+    -- what is lent is as long as it was
+    same-lent : (L : Lent) → Lends L class words cells → Lends L class₁ words cells
+    same-lent L e = record { class-long = e .class-long ∙ sym long; words-long = e .words-long; cells-long = e .cells-long }
+
     module _ (fill : ℕ) (filled : fill ≡ length (recordsOf work₁ c 4)) where
       -- ready for the first class
       begun : (P : Pack) → Starts bytes class words cells work₁ class₁ c k l r st memo P → Begun bytes work₁ class₁ words cells c k l r st memo fill P
@@ -98,27 +99,46 @@ module _ (bytes work class words cells : List ℕ) (c : Catalog) where
           let e : length (P .steps) ≡ fill = length-steps bytes (recordsOf work₁ c) P (A .standing .reads) ∙ sym filled in
           record { standing = subst (λ (n : ℕ). Standing bytes work₁ class₁ words cells c k l r st memo n P (unbuilt P)) e (A .standing) }
 
-      pub builds-begins : Opened bytes work words cells c → length class < 4294967296 → length cells < 4294967295 → Beginning bytes work₁ class₁ words cells c k l r st memo fill
-      builds-begins O small-class small-cells =
+      pub classes-begin : Opened bytes work words cells c → length class < 4294967296 → length cells < 4294967295 → Beginning bytes work₁ class₁ words cells c k l r st memo fill
+      classes-begin O small-class small-cells =
           let H = O .held in
           let A = S .0 (H .pack) (H .reads) (H .proper) in
           record { pack = H .pack; begun = begun (H .pack) A; room = A .tests; small-class = omega (arith, long); small-cells = small-cells }
 
-      -- what the rest comes to
-      pub builds-on : (class′ words′ : List ℕ) (a : Answer) → Goes bytes work₁ class₁ words cells class′ words′ c k l r st memo fill a → Builds bytes work class words cells class′ words′ c a
-      builds-on class′ words′ (answers.Done n m f) G = λ P R Q.
-          let A = S .0 P R Q in
-          let N = G P (begun P A) (λ L e. A .is L (e ∙ long)) in
-          record {
-            built = N .built;
-            roots = N .roots;
-            is = λ L e. N .is L (record { class-long = e .class-long ∙ sym long; words-long = e .words-long; cells-long = e .cells-long });
-            classes = N .classes;
-            classes-fit = N .classes-fit;
-            patterns = N .patterns;
-            patterns-fit = N .patterns-fit;
-            counted = N .counted;
-          }
-      builds-on class′ words′ (answers.Refused x) G = λ P R Q L e.
-          let A = S .0 P R Q in
-          G P (begun P A) (λ K q. A .is K (q ∙ long)) L (record { class-long = e .class-long ∙ sym long; words-long = e .words-long; cells-long = e .cells-long })
+      -- what they come to
+      pub classes-on : (work′ class′ words′ cells′ : List ℕ) (a : Classes) → Goes bytes work₁ class₁ words cells work′ class′ words′ cells′ c k l r st memo fill a → BuildsClasses bytes work class words cells work′ class′ words′ cells′ c a
+      classes-on work′ class′ words′ cells′ (made.Made s n t) G = (
+        G .0,
+        (λ P R Q.
+            let A = S .0 P R Q in
+            let N = G .1 P (begun P A) (λ L e. A .is L (e ∙ long)) in
+            record { built = N .built; is = λ L e. N .is L (same-lent L e); ended = N .ended }),
+        G .2,
+      )
+      classes-on work′ class′ words′ cells′ (made.Refused x) G = λ P R Q L e. let A = S .0 P R Q in G P (begun P A) (λ K q. A .is K (q ∙ long)) L (same-lent L e)
+
+-- ---- all classes, then the goals
+module _ (bytes work class words cells work′ class′ words′ cells′ : List ℕ) (c : Catalog) where
+  -- there are no classes
+  pub builds-unbuilt : (x : Refusal) → BuildsClasses bytes work class words cells work′ class′ words′ cells′ c (made.Refused x) → Builds bytes work class words cells class′ words′ c (answers.Refused x)
+  builds-unbuilt x B P R Q L e = run-unbuilt L P x (B P R Q L e)
+
+  -- they are made
+  pub builds-ended : (s : Building) (r : Counts) (t : Counted) → BuildsClasses bytes work class words cells work′ class′ words′ cells′ c (made.Made s r t) → (a : Answer) → EndsIn (lent bytes class′ words′ cells′ work′) s r t a
+      → Builds bytes work class words cells class′ words′ c a
+  builds-ended s r t B (answers.Done n m f) N = λ P R Q.
+      let D = B .1 P R Q in
+      let E = D .ended in
+      let W = E .standing in
+      let G = N .2 P (D .built) E in
+      record {
+        built = D .built;
+        roots = G .0;
+        is = λ L e. run-done L P (D .built) (D .is L e) (G .0) (G .1 L);
+        classes = rw (N .0) (class-words bytes work′ class′ words′ cells′ (s .catalog) (s .keying) (s .layout) r (s .store) (E .memo) (s .fill) P (D .built) W);
+        classes-fit = omega (arith, N .0, class-fits bytes work′ class′ words′ cells′ (s .catalog) (s .keying) (s .layout) r (s .store) (E .memo) (s .fill) P (D .built) W);
+        patterns = rw (N .1) (pattern-words bytes work′ class′ words′ cells′ (s .catalog) (s .keying) (s .layout) r (s .store) (E .memo) (s .fill) P (D .built) W);
+        patterns-fit = omega (arith, N .1, pattern-fits bytes work′ class′ words′ cells′ (s .catalog) (s .keying) (s .layout) r (s .store) (E .memo) (s .fill) P (D .built) W);
+        counted = G .2;
+      }
+  builds-ended s r t B (answers.Refused x) N = λ P R Q L e. let D = B .1 P R Q in run-untested L P (D .built) (D .is L e) x (N P (D .built) (D .ended) L)

@@ -1,4 +1,5 @@
 -- The goals' tests behind class building.
+pub mod Values
 pub mod Results
 pub mod Runs
 pub mod Testable

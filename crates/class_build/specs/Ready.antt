@@ -37,7 +37,7 @@ use Rattle.class_keys.specs.declared.classes.Keying.{Keying}
 use Rattle.class_keys.specs.declared.classes.Counts.{Counts}
 use Rattle.class_premises.specs.Layout.{laid-on}
 use Rattle.class_premises.specs.declared.layout.Layout.{Layout}
-use Rattle.term_readback.specs.Kept.{lifts-on}
+use Rattle.term_lift.specs.Kept.{lifts-on}
 use Rattle.class_premises.specs.Rows.{rows-none}
 use Rattle.class_premises.specs.Standing.{Standing, liftedOf}
 use Rattle.class_build.specs.Places.{keyingOf, Roomy, Places}
@@ -45,9 +45,9 @@ use Rattle.class_build.specs.Begin.{Indexable, StoreBegun}
 use Rattle.class_build.specs.declared.ready.Ready.{Ready}
 use Rattle.class_build.specs.declared.ready.Ready.the-variants as answers
 
--- what class building spends of work: 7 words a pattern word, 15 a graph cell, 8 a byte of the pack, and some
+-- what class building and the goals as shown spend of work: 7 words a pattern word, 15 a graph cell, 9 a byte of the pack, and some
 abbrev pub leastRoom : List ℕ → List ℕ → List ℕ → ℕ
-leastRoom words cells bytes = 7 * length words + 15 * length cells + 8 * length bytes + 200
+leastRoom words cells bytes = 7 * length words + 15 * length cells + 9 * length bytes + 200
 
 -- a pack was read into work, and the lengths pass
 pub record Opened (bytes work words cells : List ℕ) (c : Catalog) : Type 0 where
@@ -76,8 +76,8 @@ unbuilt P = record { store = []; classes = []; fill = length (P .steps) }
 pub record Starts (bytes class words cells work′ class′ : List ℕ) (c : Catalog) (k : Keying) (l : Layout) (r : Counts) (st : Store) (memo : Memo) (P : Pack) : Type 0 where
   pub standing : Standing bytes work′ class′ words cells c k l r st memo (length (P .steps)) P (unbuilt P)
   pub is : (L : Lent) → L .class ≡ length class → outcome L (buildClasses P) ≡ outcome L (makeClasses P (keysOf P .words) (keysOf P .classes) (unbuilt P))
-  -- behind the store's index there is room for the goals' tests, too
-  pub tests : l .copied + (3 * length words + 2 * (length cells + 16)) ≤ length work′
+  -- behind the store's index there is room for the goals' tests and for a stack behind them, too
+  pub tests : l .copied + (4 * length words + 2 * (length cells + 16) + 2 * l .nodes) ≤ length work′
 
 -- there is no room for the steps' words of pack P
 pub record Shorts (class : List ℕ) (P : Pack) : Type 0 where
@@ -193,5 +193,5 @@ module _ (bytes work class words cells : List ℕ) (c : Catalog) (O : Opened byt
                   sound = λ i h. absurd (omega arith);
                 };
                 is = λ L q. build-on L P (omega (arith, n, enough));
-                tests = omega (arith, D .behind, at-same, cap-same, at-is, cap-is, f, O .room, records-few bytes work c 3 (O .held .cataloged) (omega arith), keys-stay .long, F .long);
+                tests = omega (arith, D .behind, D .nodes, at-same, cap-same, at-is, cap-is, f, O .room, records-few bytes work c 3 (O .held .cataloged) (omega arith), keys-stay .long, F .long);
               }

@@ -1,7 +1,7 @@
 -- What one goal's test comes to in lent buffers, and that the tests of the goals left give those of all.
-use mathlib.Core.Path.{_≡_, ap, _∙_}
+use mathlib.Core.Path.{_≡_, sym, ap, _∙_}
 use mathlib.Core.Bool.{true, false}
-use mathlib.Core.List.{List, [], _∷_}
+use mathlib.Core.List.{List, [], _∷_, _++_, append-assoc, append-nil}
 use mathlib.Core.Option.{none, some}
 use Prim.Native.Nat.{ℕ, suc, _+_, _≤_, _<_}
 use native.Mathlib.Numerals.{add-one}
@@ -57,20 +57,20 @@ module _ (P : Pack) (b : Built) (i : ℕ) (g : Goal) (L : Lent) where
           ∙ outcome-return-end L (record { goal = g; step = firstOf P (r .step); class = classOf; values = vs })
 
 -- ---- all goals
--- what the goals from i on come to is what all come to: a refusal is theirs, and if they pass all pass
-pub record Left (P : Pack) (b : Built) (i : ℕ) : Type 0 where
+-- what the goals from i on come to is what all come to: a refusal is theirs, and if they pass all pass, with the roots of those done ahead
+pub record Left (P : Pack) (b : Built) (i : ℕ) (done : List Root) : Type 0 where
   pub refused : (L : Lent) (x : Refusal) → outcome L (testGoals P b i (drop i (P .goals))) ≡ refuse x → outcome L (testGoals P b 0 (P .goals)) ≡ refuse x
-  pub passed : (rs : List Root) → ((L : Lent) → outcome L (testGoals P b i (drop i (P .goals))) ≡ fine rs) → (ss : List Root) × ((L : Lent) → outcome L (testGoals P b 0 (P .goals)) ≡ fine ss)
+  pub passed : (rs : List Root) → ((L : Lent) → outcome L (testGoals P b i (drop i (P .goals))) ≡ fine rs) → (L : Lent) → outcome L (testGoals P b 0 (P .goals)) ≡ fine (done ++ rs)
 
 -- before the first one
-pub left-all : (P : Pack) (b : Built) → Left P b 0
-left-all P b = record { refused = λ L x e. e; passed = λ rs e. (rs, e) }
+pub left-all : (P : Pack) (b : Built) → Left P b 0 []
+left-all P b = record { refused = λ L x e. e; passed = λ rs e. e }
 
-module _ (P : Pack) (b : Built) (i : ℕ) (L : Left P b i) where
+module _ (P : Pack) (b : Built) (i : ℕ) (roots : List Root) (L : Left P b i roots) where
   -- none is left
-  pub left-end : length (P .goals) ≤ i → (ss : List Root) × ((l : Lent) → outcome l (testGoals P b 0 (P .goals)) ≡ fine ss)
+  pub left-end : length (P .goals) ≤ i → (l : Lent) → outcome l (testGoals P b 0 (P .goals)) ≡ fine roots
   unfolding testGoals
-  left-end h = L .passed [] (λ l. rw (drop-of-length-le (P .goals) h) (outcome-return-end l []))
+  left-end h l = L .passed [] (λ m. rw (drop-of-length-le (P .goals) h) (outcome-return-end m [])) l ∙ ap fine (append-nil roots)
 
   module _ (h : i < length (P .goals)) where
     -- the next one
@@ -97,8 +97,10 @@ module _ (P : Pack) (b : Built) (i : ℕ) (L : Left P b i) where
       then l = first l ∙ outcome-fine l (testGoal P b i next) (λ q. testGoals P b (suc i) others >>= λ rs. return (q ∷ rs)) r (e l)
 
       -- one goal more
-      pub left-on : Left P b (i + 1)
+      pub left-on : Left P b (i + 1) (roots ++ (r ∷ []))
       left-on = rw (add-one i) (record {
         refused = λ l x q. L .refused l x (then l ∙ outcome-refuse l (testGoals P b (suc i) others) (λ rs. return (r ∷ rs)) x q);
-        passed = λ rs q. L .passed (r ∷ rs) (λ l. then l ∙ outcome-fine l (testGoals P b (suc i) others) (λ ss. return (r ∷ ss)) rs (q l) ∙ outcome-return-end l (r ∷ rs));
+        passed = λ rs q m.
+            L .passed (r ∷ rs) (λ l. then l ∙ outcome-fine l (testGoals P b (suc i) others) (λ ss. return (r ∷ ss)) rs (q l) ∙ outcome-return-end l (r ∷ rs)) m
+            ∙ ap fine (sym (append-assoc roots (r ∷ []) rs));
       })

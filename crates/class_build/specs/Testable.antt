@@ -1,5 +1,6 @@
 -- What the goals' tests read of what class building left: each judgment's first step, each step's class, each class's row, the store.
-use mathlib.Core.Path.{_≡_, sym, ap, _∙_}
+use mathlib.Core.Path.{_≡_, sym, ap, _∙_, subst}
+use mathlib.Core.Bool.{Bool, false}
 use mathlib.Core.List.{List}
 use Prim.Native.Nat.{ℕ, _+_, _≤_, _<_}
 use native.Mathlib.Omega.{arith}
@@ -7,7 +8,7 @@ use lib.ListN.{length, getD, take}
 use lib.Seq.{getD-take}
 use Rattle.definition.specs.Pack.{Goal, Pack}
 use Rattle.definition.specs.Keys.{firstOf, keyed as keysOf}
-use Rattle.definition.specs.Classes.{noClass, Built}
+use Rattle.definition.specs.Classes.{noClass, mark, Built}
 use Rattle.base.specs.Outside.{Outside}
 use Rattle.base.specs.Upto.{Upto}
 use Rattle.pack_tables.specs.Catalog.{recordsOf}
@@ -20,15 +21,17 @@ use Rattle.memo.specs.declared.memo.Memo.{Memo}
 use Rattle.store.specs.declared.nodes.Store.{Store}
 use Rattle.class_keys.specs.Firsts.{Noted, placed-many, placed-reads, noted-on}
 use Rattle.class_keys.specs.declared.classes.Keying.{Keying}
-use Rattle.class_premises.specs.Takes.{conclusionIn}
+use Rattle.class_premises.specs.Takes.{rowIn, conclusionIn, countIn}
 use Rattle.class_premises.specs.declared.layout.Layout.{Layout}
 use Rattle.term_instance.specs.Held.{Given}
 use Rattle.term_instance.specs.declared.tables.Instance.{Instance}
 use Rattle.class_build.specs.Results.{answered-first, answered-class}
 
--- where the row of step f's class stands
-abbrev pub rowIn : (work class : List ℕ) (l : Layout) (f : ℕ) → ℕ
-rowIn work class l f = getD work (l .rows + getD class f 0) 0
+-- a row stands in the class buffer, and behind its first words are the marks of its class's variables
+pub record Marked (class : List ℕ) (row : ℕ) (flex : List Bool) : Type 0 where
+  pub within : row + 3 + length flex ≤ length class
+  pub count : countIn class row ≡ length flex
+  pub marks : (k : ℕ) → k < length flex → getD class (row + 3 + k) 0 ≡ mark (getD flex k false)
 
 -- all classes of pack P are made, and what the tests read stands ahead of the instance test's tables
 pub record Ready (bytes work class words : List ℕ) (c : Catalog) (k : Keying) (l : Layout) (t : Instance) (st : Store) (P : Pack) (b : Built) : Type 0 where
@@ -47,6 +50,8 @@ pub record Ready (bytes work class words : List ℕ) (c : Catalog) (k : Keying) 
   pub rows : (i : ℕ) → i < length (b .classes) → getD work (l .rows + i) 0 < length class
   pub conclusions : (i : ℕ) → i < length (b .classes) → conclusionIn class (getD work (l .rows + i) 0) ≡ getD (b .classes) i noClass .conclusion
   pub stored : (i : ℕ) → i < length (b .classes) → getD (b .classes) i noClass .conclusion < length (b .store)
+  -- the marks of its variables
+  pub marks : (i : ℕ) → i < length (b .classes) → Marked class (getD work (l .rows + i) 0) (getD (b .classes) i noClass .flex)
   pub store : nodes words st ≡ b .store
 
 -- it is so of some pack, and there are the tables of the instance test
@@ -56,28 +61,33 @@ pub record Testable (bytes work class words : List ℕ) (c : Catalog) (k : Keyin
   pub ready : Ready bytes work class words c k l t st pack built
   pub given : Given bytes work words c t st seen values
 
--- words of these tables may change
-pub ready-on : (bytes work work′ class words : List ℕ) (c : Catalog) (k : Keying) (l : Layout) (t : Instance) (st : Store) (P : Pack) (b : Built) → Outside (t .pairs) (t .end) work work′
+-- words from these tables on may change
+pub ready-upto : (bytes work work′ class words : List ℕ) (c : Catalog) (k : Keying) (l : Layout) (t : Instance) (st : Store) (P : Pack) (b : Built) → Upto (t .pairs) work work′
     → Ready bytes work class words c k l t st P b → Ready bytes work′ class words c k l t st P b
-ready-on bytes work work′ class words c k l t st P b A R =
-    let U : Upto (t .pairs) work work′ = record { long = A .long; words = A .ahead } in
-    let W : Upto (k .at) work work′ = record { long = A .long; words = λ i h. A .ahead i (omega (arith, R .firsts)) } in
-    let place : (i : ℕ) → i < length (b .classes) → getD work′ (l .rows + i) 0 ≡ getD work (l .rows + i) 0 = λ i h. A .ahead (l .rows + i) (omega (arith, R .places)) in
+ready-upto bytes work work′ class words c k l t st P b U R =
+    let W : Upto (k .at) work work′ = record { long = U .long; words = λ i h. U .words i (omega (arith, R .firsts)) } in
+    let place : (i : ℕ) → i < length (b .classes) → getD work′ (l .rows + i) 0 ≡ getD work (l .rows + i) 0 = λ i h. U .words (l .rows + i) (omega (arith, R .places)) in
     record {
       noted = noted-on bytes work work′ c (k .at) (t .pairs) (R .firsts) U (R .noted);
       reads = placed-reads bytes work work′ c (k .at) (R .noted .placed) W P (R .reads);
       proper = R .proper;
       firsts = omega (arith, R .firsts, placed-many bytes work work′ c (k .at) (R .noted .placed) W 3 (omega arith));
       places = R .places;
-      inside = omega (arith, R .inside, A .long);
+      inside = omega (arith, R .inside, U .long);
       many = R .many;
       classes = R .classes;
       made = R .made;
       rows = λ i h. omega (arith, place i h, R .rows i h);
       conclusions = λ i h. ap (λ (j : ℕ). conclusionIn class j) (place i h) ∙ R .conclusions i h;
       stored = R .stored;
+      marks = λ i h. subst (λ (j : ℕ). Marked class j (getD (b .classes) i noClass .flex)) (sym (place i h)) (R .marks i h);
       store = R .store;
     }
+
+-- words of these tables
+pub ready-on : (bytes work work′ class words : List ℕ) (c : Catalog) (k : Keying) (l : Layout) (t : Instance) (st : Store) (P : Pack) (b : Built) → Outside (t .pairs) (t .end) work work′
+    → Ready bytes work class words c k l t st P b → Ready bytes work′ class words c k l t st P b
+ready-on bytes work work′ class words c k l t st P b A = ready-upto bytes work work′ class words c k l t st P b (record { long = A .long; words = A .ahead })
 
 -- the class of a goal's judgment
 module _ (bytes work class words : List ℕ) (c : Catalog) (k : Keying) (l : Layout) (t : Instance) (st : Store) (P : Pack) (b : Built) (R : Ready bytes work class words c k l t st P b)

@@ -1,19 +1,20 @@
 -- All goals when all classes are made: what is asked, and what is answered.
-use mathlib.Core.Path.{_≡_, sym, subst}
-use mathlib.Core.List.{List}
-use Prim.Native.Nat.{ℕ, _+_, _*_, _≤_}
+use mathlib.Core.Path.{_≡_, refl, sym, ap, _∙_, subst}
+use mathlib.Core.Bool.{Bool, false}
+use mathlib.Core.List.{List, [], _∷_, map}
+use Prim.Native.Nat.{ℕ, zero, suc, _+_, _*_, _≤_, _<_}
 use native.Mathlib.Omega.{arith}
-use lib.ListN.{length}
+use lib.ListN.{length, getD}
 use Rattle.definition.specs.Pack.{Pack}
 use Rattle.definition.specs.Frame.{fine, refuse}
 use Rattle.definition.specs.Answer.{Lent}
-use Rattle.definition.specs.Keys.{keyed as keysOf}
-use Rattle.definition.specs.Classes.{Built}
+use Rattle.definition.specs.Keys.{Keyed, keyed as keysOf}
+use Rattle.definition.specs.Classes.{Class, noClass, mark, Built}
 use Rattle.definition.specs.Run.{outcome}
 use Rattle.definition.specs.Goals.{Root, testGoals}
 use Rattle.definition.specs.declared.Refusal.the-variants.{Goal as Unmet, Instance as Unlike}
 use Rattle.base.specs.Outside.{Outside, outside-then, outside-wider}
-use Rattle.base.specs.Part.{part}
+use Rattle.base.specs.Part.{part, part-at}
 use Rattle.pack_tables.specs.Catalog.{recordsOf}
 use Rattle.pack_tables.specs.declared.catalog.Catalog.{Catalog}
 use Rattle.pack_read.specs.Reads.{length-steps}
@@ -25,13 +26,14 @@ use Rattle.class_keys.specs.Keyed.{keyed-noted}
 use Rattle.class_keys.specs.declared.classes.Keying.{Keying}
 use Rattle.class_keys.specs.declared.classes.Counts.{Counts}
 use Rattle.class_premises.specs.declared.layout.Layout.{Layout}
-use Rattle.class_premises.specs.Rows.{row-within, row-conclusion}
+use Rattle.class_premises.specs.Rows.{RowsIn, row-within, row-conclusion, row-count, row-flex}
+use Rattle.class_premises.specs.Takes.{countIn}
 use Rattle.class_premises.specs.Standing.{Standing, standing-held, standing-keyed, standing-behind, standing-few}
 use Rattle.term_instance.specs.Held.{Given, Kept, outside-same}
 use Rattle.term_instance.specs.declared.tables.Instance.{Instance}
 use Rattle.class_build.specs.declared.goals_each.Tested.{Tested}
 use Rattle.class_build.specs.declared.goals_each.Tested.the-variants as answers
-use Rattle.class_build.specs.Testable.{Ready, Testable, ready-on}
+use Rattle.class_build.specs.Testable.{Marked, Ready, Testable, ready-on}
 use Rattle.class_build.specs.EachGoal.{TestsEach}
 use Rattle.theory.specs.Making.Variables.{VariablesBelow}
 use Rattle.memo.specs.Lent.{lent, lent-before, Clears}
@@ -79,8 +81,29 @@ Tests bytes work work′ class words c k l t st (answers.Other s) =
     Outside (t .pairs) (t .end) work work′ × OfMade bytes work class words c k l st (λ P b. (L : Lent) → outcome L (testGoals P b 0 (P .goals)) ≡ refuse (Unlike s))
 
 -- ---- the start
+-- a mark of some as a word
+mark-at : (flex : List Bool) (k : ℕ) → k < length flex → getD (map mark flex) k 0 ≡ mark (getD flex k false)
+mark-at [] k h = absurd (omega arith)
+mark-at (x ∷ flex) zero h = refl
+mark-at (x ∷ flex) (suc k) h = mark-at flex k (omega arith)
+
+-- a row that is made has its class's marks
+pub row-marked : (work class : List ℕ) (at start fill : ℕ) (cs : List Class) (ks : List Keyed) → RowsIn work class at start fill cs ks → (i : ℕ) → i < length cs
+    → Marked class (getD work (at + i) 0) (getD cs i noClass .flex)
+row-marked work class at start fill cs ks R i h =
+    let row : ℕ = getD work (at + i) 0 in
+    let flex : List Bool = getD cs i noClass .flex in
+    let n = row-count work class at start fill cs ks R i h in
+    record {
+      within = omega (arith, row-within work class at start fill cs ks R i h, R .fits);
+      count = n;
+      marks = λ k l.
+          sym (part-at (row + 3) (countIn class row) class k (omega (arith, n, l)))
+          ∙ ap (λ (ws : List ℕ). getD ws k 0) (row-flex work class at start fill cs ks R i h) ∙ mark-at flex k l;
+    }
+
 -- what stands can be read
-standing-ready : (bytes work class words cells : List ℕ) (c : Catalog) (k : Keying) (l : Layout) (r : Counts) (st : Store) (memo : Memo) (fill : ℕ) (P : Pack) (b : Built)
+pub standing-ready : (bytes work class words cells : List ℕ) (c : Catalog) (k : Keying) (l : Layout) (r : Counts) (st : Store) (memo : Memo) (fill : ℕ) (P : Pack) (b : Built)
     → Standing bytes work class words cells c k l r st memo fill P b → length (b .classes) ≡ length (keysOf P .classes) → (t : Instance) → t .pairs ≡ l .copied
     → Ready bytes work class words c k l t st P b
 standing-ready bytes work class words cells c k l r st memo fill P b S all t e =
@@ -100,12 +123,13 @@ standing-ready bytes work class words cells c k l r st memo fill P b S all t e =
       rows = λ i h. omega (arith, row-within work class (l .rows) (length (P .steps)) fill (b .classes) (keysOf P .classes) (S .rows) i h, S .rows .fits);
       conclusions = λ i h. row-conclusion work class (l .rows) (length (P .steps)) fill (b .classes) (keysOf P .classes) (S .rows) i h;
       stored = λ i h. S .sound i h .stored;
+      marks = λ i h. row-marked work class (l .rows) (length (P .steps)) fill (b .classes) (keysOf P .classes) (S .rows) i h;
       store = S .store;
     }
 
 module _ (bytes work class words : List ℕ) (c : Catalog) (k : Keying) (l : Layout) (t : Instance) (st : Store) (M : Made bytes work class words c k l t st) where
   -- the values' end is behind them
-  made-order : t .values ≤ t .end
+  pub made-order : t .values ≤ t .end
   made-order = omega (arith, M .tabled .values)
 
   -- the tables stand one behind the other
@@ -122,7 +146,7 @@ module _ (bytes work class words : List ℕ) (c : Catalog) (k : Keying) (l : Lay
   made-index = rw (M .tabled .index, M .tabled .behind) (M .standing .lifts .laid .index)
 
   -- with both memos there is all that the instance test asks
-  made-given : (work′ : List ℕ) (seen values : Memo) → Kept t seen values work work′ → Given bytes work′ words c t st seen values
+  pub made-given : (work′ : List ℕ) (seen values : Memo) → Kept t seen values work work′ → Given bytes work′ words c t st seen values
   made-given work′ seen values K =
       let S = M .standing in
       let T = M .tabled in
@@ -151,7 +175,7 @@ module _ (bytes work class words : List ℕ) (c : Catalog) (k : Keying) (l : Lay
 
     module _ (next : List ℕ) (bare : Memo) (B : Clears mid next (t .values) (t .end) bare) where
       -- what is left
-      begun-kept : Kept t fresh bare work next
+      pub begun-kept : Kept t fresh bare work next
       begun-kept =
           let T = M .tabled in
           let s = lent-before (t .values) (t .end) mid next (B .outside) (t .seen) (t .values) (omega (arith, T .table)) (omega arith) (omega (arith, made-order, T .fits, A .outside .long)) in
@@ -163,7 +187,7 @@ module _ (bytes work class words : List ℕ) (c : Catalog) (k : Keying) (l : Lay
           }
 
       -- what stood there can be read now
-      begun-read : (cells : List ℕ) (r : Counts) (memo : Memo) (fill : ℕ) (P : Pack) (b : Built) → Standing bytes work class words cells c k l r st memo fill P b → length (b .classes) ≡ length (keysOf P .classes)
+      pub begun-read : (cells : List ℕ) (r : Counts) (memo : Memo) (fill : ℕ) (P : Pack) (b : Built) → Standing bytes work class words cells c k l r st memo fill P b → length (b .classes) ≡ length (keysOf P .classes)
           → Ready bytes next class words c k l t st P b
       begun-read cells r memo fill P b S a =
           ready-on bytes work next class words c k l t st P b (begun-kept .outside) (standing-ready bytes work class words cells c k l r st memo fill P b S a t (M .tabled .behind))

@@ -19,11 +19,17 @@ ghost use lib.ListN.{length};
 ghost use Rattle.definition.specs.Store.{nothing};
 ghost use Rattle.class_build.specs.Ready.{Opened};
 ghost use Rattle.class_premises.specs.Buffers.{lent};
-ghost use Rattle.class_build.specs.Build.{TestingIn, EndsIn, BeginningIn, GoesIn, Builds};
+ghost use Rattle.class_build.specs.Build.{TestingIn, EndsIn, BeginningIn, GoesIn, BuildsClasses, Builds};
 
 // How many class words and pattern words there are, and the figures; or why there are none.
 pub enum Answer {
     Done(usize, usize, Figures),
+    Refused(Refusal),
+}
+
+// All classes are made: what is at hand then, how many there are, and their sums; or why they are not.
+pub enum Classes {
+    Made(Building, Counts, Counted),
     Refused(Refusal),
 }
 
@@ -62,8 +68,8 @@ fn finish(
     }
 }
 
-// All classes from the first on, then the rest.
-fn build_from(
+// All classes from the first on.
+fn make_from(
     pack: &[u8],
     work: &mut [u32],
     class: &mut [u32],
@@ -71,13 +77,42 @@ fn build_from(
     cells: &mut [u32],
     s: Building,
     r: Counts,
-) -> Answer
+) -> Classes
     requires { ⌜ BeginningIn (lent (now pack) (now class) (now words) (now cells) (now work)) s r ⌝ }
     ensures { λ a. ⌜ GoesIn (lent (now (pack .entry)) (now (class .entry)) (now (words .entry)) (now (cells .entry)) (now (work .entry))) (lent (now (pack .entry)) (now (class .exit)) (now (words .exit)) (now (cells .exit)) (now (work .exit))) s r a ⌝ }
 {
     match make_classes(pack, work, class, words, cells, s, r.classes) {
-        ClassMade::Made(at, t) => finish(pack, work, class, words, cells, at, r, t),
-        ClassMade::Refused(x) => Answer::Refused(x),
+        ClassMade::Made(at, t) => Classes::Made(at, r, t),
+        ClassMade::Refused(x) => Classes::Refused(x),
+    }
+}
+
+// All classes from a pack that was read into work, by its tables. Behind a refusal it is left open what any buffer holds.
+pub fn build_classes(
+    pack: &[u8],
+    work: &mut [u32],
+    class: &mut [u32],
+    words: &mut [u32],
+    cells: &mut [u32],
+    c: Catalog,
+) -> Classes
+    requires { ⌜ Opened (now pack) (now work) (now words) (now cells) c × (length (now class) < 4294967296) × (length (now cells) < nothing) ⌝ }
+    ensures { λ a. ⌜ BuildsClasses (now (pack .entry)) (now (work .entry)) (now (class .entry)) (now (words .entry)) (now (cells .entry)) (now (work .exit)) (now (class .exit)) (now (words .exit)) (now (cells .exit)) c a ⌝ }
+{
+    match make_ready(pack, work, class, words, cells, c) {
+        Ready::On(k, l, r, st, memo) => {
+            let fill = c.count(work, Catalog::STEPS);
+            let s = Building {
+                catalog: c,
+                keying: k,
+                layout: l,
+                store: st,
+                memo: memo,
+                fill: fill,
+            };
+            make_from(pack, work, class, words, cells, s, r)
+        }
+        Ready::Short => Classes::Refused(Refusal::Short(Buffer::CLASS)),
     }
 }
 
@@ -94,19 +129,8 @@ pub fn build(
     requires { ⌜ Opened (now pack) (now work) (now words) (now cells) c × (length (now class) < 4294967296) × (length (now cells) < nothing) ⌝ }
     ensures { λ s. ⌜ Builds (now (pack .entry)) (now (work .entry)) (now (class .entry)) (now (words .entry)) (now (cells .entry)) (now (class .exit)) (now (words .exit)) c s ⌝ }
 {
-    match make_ready(pack, work, class, words, cells, c) {
-        Ready::On(k, l, r, st, memo) => {
-            let fill = c.count(work, Catalog::STEPS);
-            let s = Building {
-                catalog: c,
-                keying: k,
-                layout: l,
-                store: st,
-                memo: memo,
-                fill: fill,
-            };
-            build_from(pack, work, class, words, cells, s, r)
-        }
-        Ready::Short => Answer::Refused(Refusal::Short(Buffer::CLASS)),
+    match build_classes(pack, work, class, words, cells, c) {
+        Classes::Made(s, r, t) => finish(pack, work, class, words, cells, s, r, t),
+        Classes::Refused(x) => Answer::Refused(x),
     }
 }

@@ -1,8 +1,9 @@
 // One goal: its result, that one's class, and the instance test.
-use base::id::Pattern;
 use class_keys::classes::Keying;
 use class_keys::firsts::first_of;
 use class_premises::layout::Layout;
+use class_premises::row::row_conclusion;
+use class_premises::row::row_of;
 use memo::memo::Memo;
 use pack_read::goal::goal_judgment;
 use pack_read::goal::goal_step;
@@ -12,17 +13,16 @@ use store::nodes::Store;
 use term_instance::instance::Matched;
 use term_instance::instance::instance;
 use term_instance::tables::Instance;
-ghost use mathlib.Core.Path.{_≡_};
-ghost use Prim.Native.Nat.{_+_, _<_};
-ghost use lib.ListN.{length, getD};
+ghost use Prim.Native.Nat.{_<_};
+ghost use lib.ListN.{length};
 ghost use Rattle.pack_tables.specs.Catalog.{recordsOf};
-ghost use Rattle.class_build.specs.Testable.{rowIn, Testable};
+ghost use Rattle.class_build.specs.Testable.{Testable};
 ghost use Rattle.class_build.specs.OneGoal.{TestsOne};
 
-// A goal is met, with the memos as they are then; or it has no result, or one with another judgment; or the judgment of the result's step
-// is no instance of its class's conclusion.
+// A goal is met, with the memos as they are then and where the row of its class stands; or it has no result, or one with another
+// judgment; or the judgment of the result's step is no instance of its class's conclusion.
 pub enum Goal {
-    Met(Memo, Memo),
+    Met(Memo, Memo, usize),
     Unmet,
     Other(usize),
 }
@@ -32,16 +32,6 @@ pub struct Testing {
     pub tables: Instance,
     pub seen: Memo,
     pub values: Memo,
-}
-
-// The conclusion of step `f`'s class.
-fn conclusion_of(work: &[u32], class: &[u32], l: Layout, f: usize) -> Pattern
-    requires { ⌜ (f < length (now class)) × (l .rows + getD (now class) f 0 < length (now work)) × (rowIn (now work) (now class) l f < length (now class)) ⌝ }
-    ensures { λ r. ⌜ r .0 ≡ getD (now (class .entry)) (rowIn (now (work .entry)) (now (class .entry)) l f) 0 ⌝ }
-{
-    let at = l.rows + class[f] as usize;
-    let row = work[at] as usize;
-    Pattern(class[row])
 }
 
 // Goal `g` is tested.
@@ -63,11 +53,12 @@ pub fn test_goal(
     match goal_step(pack, work, c, g) {
         Sought::At(s) => {
             let f = first_of(pack, work, c, k.at, s);
-            let p = conclusion_of(work, class, l, f);
+            let row = row_of(work, class, l, f);
+            let p = row_conclusion(class, row);
             let m = goal_judgment(pack, work, c, g);
             match instance(pack, work, words, c, t.tables, st, t.seen, t.values, p, m) {
                 Matched::Yes(seen, values) => {
-                    return Goal::Met(seen, values);
+                    return Goal::Met(seen, values, row);
                 }
                 Matched::No => {
                     return Goal::Other(s);

@@ -45,7 +45,7 @@ pub fn test_each(
             values: values,
         };
         match test_goal(pack, work, class, words, c, k, l, st, at, g) {
-            Goal::Met(s, v) => {
+            Goal::Met(s, v, _) => {
                 seen = s;
                 values = v;
             }

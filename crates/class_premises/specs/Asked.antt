@@ -17,7 +17,7 @@ use Rattle.class_keys.specs.Firsts.{Noted}
 use Rattle.class_keys.specs.Keyed.{keyed-noted}
 use Rattle.class_keys.specs.declared.classes.Keying.{Keying}
 use Rattle.class_keys.specs.declared.classes.Counts.{Counts as KeyCounts}
-use Rattle.class_premises.specs.Takes.{Taking, TakesTo}
+use Rattle.class_premises.specs.Takes.{rowIn, Taking, TakesTo}
 use Rattle.class_premises.specs.declared.layout.Layout.{Layout}
 use Rattle.class_premises.specs.declared.premise.Premise.{Premise}
 use Rattle.class_premises.specs.declared.premise.Taken.{Taken}
@@ -68,23 +68,24 @@ module _ (bytes work class words cells : List ℕ) (c : Catalog) (k : Keying) (l
       abbrev with : ℕ → Premise
       with row = record { step = u .step; rule = u .rule; vars = u .vars; row = row; from = from; copies = copies }
 
-      pub premise-asked : Taking bytes work class words cells c l st memo g env (with (getD work (l .rows + getD class f 0) 0))
-      premise-asked =
-          subst (λ (n : ℕ). Taking bytes work class words cells c l st memo g env (with n))
-          (sym (row-read bytes work class words cells c k l (N .counts) st memo (N .fill) g env u i from copies (N .pack) (N .built) (N .terms) (N .refs) (N .state) (N .here) (N .more) f here-first))
-          (next-taking bytes work class words cells c k l (N .counts) st memo (N .fill) g env u i from copies (N .pack) (N .built) (N .terms) (N .refs) (N .state) (N .here) (N .more))
+      module _ (row : ℕ) (e : row ≡ rowIn work class l f) where
+        pub premise-asked : Taking bytes work class words cells c l st memo g env (with row)
+        premise-asked =
+            subst (λ (n : ℕ). Taking bytes work class words cells c l st memo g env (with n))
+            (sym (e ∙ row-read bytes work class words cells c k l (N .counts) st memo (N .fill) g env u i from copies (N .pack) (N .built) (N .terms) (N .refs) (N .state) (N .here) (N .more) f here-first))
+            (next-taking bytes work class words cells c k l (N .counts) st memo (N .fill) g env u i from copies (N .pack) (N .built) (N .terms) (N .refs) (N .state) (N .here) (N .more))
 
-      -- what it comes to
-      pub premise-says : (work′ cells′ : List ℕ) (t : Taken) → length cells′ ≡ length cells → TakesTo bytes work work′ class words cells cells′ c l st g env (with (getD work (l .rows + getD class f 0) 0)) t
-          → Nexts bytes work work′ class words cells cells′ c k l st memo g env u i from copies t
-      premise-says work′ cells′ (On t x) long T = (
-        T .0,
-        λ r fill P b ts refs ps H.
-            let e = row-read bytes work class words cells c k l r st memo fill g env u i from copies P b ts refs ps H (N .more) f (first-is r fill P b ts refs ps H) in
-            next-on bytes work class words cells c k l r st memo fill g env u i from copies P b ts refs ps H (N .more) work′ cells′ t x long
-            (subst (λ (n : ℕ). TakesTo bytes work work′ class words cells cells′ c l st g env (with n) (On t x)) e T),
-      )
-      premise-says work′ cells′ (Refused z) long T = λ r fill P b ts refs ps H.
-          let e = row-read bytes work class words cells c k l r st memo fill g env u i from copies P b ts refs ps H (N .more) f (first-is r fill P b ts refs ps H) in
-          next-refused bytes work class words cells c k l r st memo fill g env u i from copies P b ts refs ps H (N .more) work′ cells′ z
-          (subst (λ (n : ℕ). TakesTo bytes work work′ class words cells cells′ c l st g env (with n) (Refused z)) e T)
+        -- what it comes to
+        pub premise-says : (work′ cells′ : List ℕ) (t : Taken) → length cells′ ≡ length cells → TakesTo bytes work work′ class words cells cells′ c l st g env (with row) t
+            → Nexts bytes work work′ class words cells cells′ c k l st memo g env u i from copies t
+        premise-says work′ cells′ (On t x) long T = (
+          T .0,
+          λ r fill P b ts refs ps H.
+              let d = e ∙ row-read bytes work class words cells c k l r st memo fill g env u i from copies P b ts refs ps H (N .more) f (first-is r fill P b ts refs ps H) in
+              next-on bytes work class words cells c k l r st memo fill g env u i from copies P b ts refs ps H (N .more) work′ cells′ t x long
+              (subst (λ (n : ℕ). TakesTo bytes work work′ class words cells cells′ c l st g env (with n) (On t x)) d T),
+        )
+        premise-says work′ cells′ (Refused z) long T = λ r fill P b ts refs ps H.
+            let d = e ∙ row-read bytes work class words cells c k l r st memo fill g env u i from copies P b ts refs ps H (N .more) f (first-is r fill P b ts refs ps H) in
+            next-refused bytes work class words cells c k l r st memo fill g env u i from copies P b ts refs ps H (N .more) work′ cells′ z
+            (subst (λ (n : ℕ). TakesTo bytes work work′ class words cells cells′ c l st g env (with n) (Refused z)) d T)

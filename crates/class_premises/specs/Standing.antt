@@ -28,7 +28,7 @@ use Rattle.class_keys.specs.declared.classes.Keying.{Keying}
 use Rattle.class_keys.specs.declared.classes.Counts.{Counts}
 use Rattle.class_premises.specs.Layout.{memoIn, Laid, laid-on, laid-cells}
 use Rattle.class_premises.specs.declared.layout.Layout.{Layout}
-use Rattle.term_readback.specs.Kept.{lifts-on}
+use Rattle.term_lift.specs.Kept.{lifts-on}
 use Rattle.class_premises.specs.Rows.{RowsIn, rows-on}
 
 -- where lifting has its words

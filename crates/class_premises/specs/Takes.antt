@@ -47,6 +47,10 @@ use Rattle.class_premises.specs.Copied.{copied-inside, copy-longer, copy
 use Rattle.class_premises.specs.Joins.{variablesIn, copiesIn}
 use Rattle.class_premises.specs.Meets.{SpellsAt, Meeting, meets, MeetsTo, instantiate-cells}
 
+-- where the row of step f's class stands
+abbrev pub rowIn : (work class : List ℕ) (l : Layout) (f : ℕ) → ℕ
+rowIn work class l f = getD work (l .rows + getD class f 0) 0
+
 -- a row's conclusion, how many variables it has, and their marks
 abbrev pub conclusionIn : List ℕ → ℕ → ℕ
 conclusionIn class row = getD class row 0
@@ -159,8 +163,8 @@ flex-long : (class words cells : List ℕ) (st : Store) (row : ℕ) → Row clas
 flex-long class words cells st row R = length-part (row + 3) (countIn class row) class (R .inside)
 
 -- as they are lent
-pub flex-lent : (class : List ℕ) (row : ℕ) → take (row + 3 + countIn class row - (row + 3)) (drop (row + 3) class) ≡ flexIn class row
-flex-lent class row = part-lent (row + 3) (row + 3 + countIn class row) (countIn class row) class refl
+pub flex-lent : (class : List ℕ) (row n : ℕ) → n ≡ countIn class row → take (row + 3 + n - (row + 3)) (drop (row + 3) class) ≡ flexIn class row
+flex-lent class row n e = part-lent (row + 3) (row + 3 + n) n class refl ∙ ap (λ (m : ℕ). part (row + 3) m class) e
 
 -- so the copy has its room
 pub copying-given : (work class words cells : List ℕ) (l : Layout) (st : Store) (memo : Memo) (g : Counts) (row : ℕ) → Copying work class words cells l st memo g row → Given work words cells (flexIn class row) (copyingOf l) st memo g
@@ -241,8 +245,8 @@ module _ (bytes work class words cells : List ℕ) (c : Catalog) (l : Layout) (s
       env-below : Below (length h) env → Below (length (freshIn class words st (p .row) h .graph)) env
       env-below b = below-more (length h) (length (freshIn class words st (p .row) h .graph)) env (omega (arith, nodes-more, before-many, fresh-many)) b
 
-    pub taking-meeting : Meeting bytes work₁ cells₁ c l g₁ env p (record { node = y; variables = countIn class (p .row); memo = memo₁ })
-    taking-meeting = record {
+    counted-meeting : Meeting bytes work₁ cells₁ c l g₁ env p (record { node = y; variables = countIn class (p .row); memo = memo₁ })
+    counted-meeting = record {
       held = now-held;
       behind = omega (arith, T .behind, T .laid .index, T .laid .memo, T .laid .stack, T .laid .variables);
       variables = omega (arith, T .laid .variables, T .stands .few);
@@ -275,8 +279,8 @@ module _ (bytes work class words cells : List ℕ) (c : Catalog) (l : Layout) (s
     equal-node : (h : Graph) (H : Shows cells (tableIn work l) g h) (I : Inner h) (t : Term) → meets t env (freshIn class words st (p .row) h .graph) (y .0) ≡ joinedIn class words st (p .row) env t h
     equal-node h H I t = ap (λ (z : ℕ). meets t env (freshIn class words st (p .row) h .graph) z) (made h H I .node)
 
-    pub takes-met : (work′ cells′ : List ℕ) (r : Taken) → MeetsTo bytes work₁ work′ cells₁ cells′ c l g₁ env p (record { node = y; variables = countIn class (p .row); memo = memo₁ }) r → TakesTo bytes work work′ class words cells cells′ c l st g env p r
-    takes-met work′ cells′ (On r x) M =
+    counted-met : (work′ cells′ : List ℕ) (r : Taken) → MeetsTo bytes work₁ work′ cells₁ cells′ c l g₁ env p (record { node = y; variables = countIn class (p .row); memo = memo₁ }) r → TakesTo bytes work work′ class words cells cells′ c l st g env p r
+    counted-met work′ cells′ (On r x) M =
         let N = M .1 in
         let at : l .graph + copiesAt cells₁ ≡ l .graph + copiesAt cells = ap (λ (m : ℕ). l .graph + (11 * m + 7)) long in (
           outside-then (l .copied) (l .end) work work₁ work′
@@ -299,17 +303,25 @@ module _ (bytes work class words cells : List ℕ) (c : Catalog) (l : Layout) (s
                 copies = ap (λ (a : ℕ). part a (r .copies) work′) (sym at) ∙ N .list ∙ ap₂ (λ (a : ℕ) (ys : List ℕ). part a (p .copies) work₁ ++ ys) at (words-say h H I) ∙ ap (λ (xs : List ℕ). xs ++ inOrder (upTo n) (freshIn class words st (p .row) h .variables)) copies-same;
               },
         )
-    takes-met work′ cells′ (Refused z) (inl M) =
+    counted-met work′ cells′ (Refused z) (inl M) =
         inl (
           M .0,
           λ P R Q t S h H I b.
               let m = M .1 P (reads-now P R) Q t S (freshIn class words st (p .row) h .graph) (made h H I .shows) (made h H I .inner) (env-below h H I b) in
               (ap (λ (u : Unified). u .graph) (sym (equal-node h H I t)) ∙ m .0, omega (arith, m .1, long)),
         )
-    takes-met work′ cells′ (Refused z) (inr M) =
+    counted-met work′ cells′ (Refused z) (inr M) =
         inr (
           M .0,
           λ P R Q t S h H I b.
               let m = M .1 P (reads-now P R) Q t S (freshIn class words st (p .row) h .graph) (made h H I .shows) (made h H I .inner) (env-below h H I b) in
               omega (arith, m, long),
         )
+
+    -- both with the count as it was read
+    module _ (n : ℕ) (counted : n ≡ countIn class (p .row)) where
+      pub taking-meeting : Meeting bytes work₁ cells₁ c l g₁ env p (record { node = y; variables = n; memo = memo₁ })
+      taking-meeting = subst (λ (m : ℕ). Meeting bytes work₁ cells₁ c l g₁ env p (record { node = y; variables = m; memo = memo₁ })) (sym counted) counted-meeting
+
+      pub takes-met : (work′ cells′ : List ℕ) (r : Taken) → MeetsTo bytes work₁ work′ cells₁ cells′ c l g₁ env p (record { node = y; variables = n; memo = memo₁ }) r → TakesTo bytes work work′ class words cells cells′ c l st g env p r
+      takes-met work′ cells′ r M = counted-met work′ cells′ r (subst (λ (m : ℕ). MeetsTo bytes work₁ work′ cells₁ cells′ c l g₁ env p (record { node = y; variables = m; memo = memo₁ }) r) counted M)

@@ -2,8 +2,10 @@
 use crate::building::Building;
 use crate::copies::note_copies;
 use crate::layout::Layout;
+use crate::row::Row;
+use crate::row::row_conclusion;
+use crate::row::row_variables;
 use base::id::Node;
-use base::id::Pattern;
 use definition::Buffer;
 use definition::Refusal;
 use graph::graph::Graph;
@@ -136,8 +138,9 @@ fn copy_class(
     requires { ⌜ Reading (now work) (now class) (now words) (now cells) l st memo g row ⌝ }
     ensures { λ r. ⌜ CopiesTo (now (work .entry)) (now (work .exit)) (now (class .entry)) (now (words .entry)) (now (cells .entry)) (now (cells .exit)) l st g row r ⌝ }
 {
-    let from = row + 3;
-    let to = from + class[row + 2] as usize;
+    let from = row + Row::MARKS;
+    let to = from + row_variables(class, row);
+    let p = row_conclusion(class, row);
     let tables = Copying {
         index: l.lifted + Lifted::NODE * l.nodes,
         copied: l.copied,
@@ -146,17 +149,7 @@ fn copy_class(
         graph: l.graph,
         end: l.end,
     };
-    copy(
-        work,
-        words,
-        cells,
-        tables,
-        st,
-        memo,
-        g,
-        &class[from..to],
-        Pattern(class[row]),
-    )
+    copy(work, words, cells, tables, st, memo, g, &class[from..to], p)
 }
 
 // The premise that starts with a word of a rule, whose ref has the class with a row: a copy of the class's conclusion and the premise's
@@ -178,7 +171,7 @@ pub fn take_premise(
     ensures { λ r. ⌜ TakesIn (lent (now (pack .entry)) (now (class .entry)) (now (words .entry)) (now (cells .entry)) (now (work .entry))) (lent (now (pack .entry)) (now (class .entry)) (now (words .entry)) (now (cells .exit)) (now (work .exit))) s g (now (env .entry)) p r ⌝ }
 {
     let row = p.row;
-    let n = class[row + 2] as usize;
+    let n = row_variables(class, row);
     match copy_class(work, class, words, cells, s.layout, s.store, memo, g, row) {
         Copied::At(y, h, known) => {
             let f = Fresh {

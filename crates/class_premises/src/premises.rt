@@ -4,6 +4,7 @@ use crate::premise::Premise;
 use crate::premise::Reached;
 use crate::premise::Taken;
 use crate::premise::take_premise;
+use crate::row::row_of;
 use class_keys::firsts::first_of;
 use definition::Refusal;
 use graph::graph::Graph;
@@ -44,8 +45,7 @@ fn next_premise(
 {
     let r = step_ref(pack, work, s.catalog, u.step, i) as usize;
     let f = first_of(pack, work, s.catalog, s.keying.at, r);
-    let at = s.layout.rows + class[f] as usize;
-    let row = work[at] as usize;
+    let row = row_of(work, class, s.layout, f);
     let p = Premise {
         step: u.step,
         rule: u.rule,

@@ -1,34 +1,37 @@
 -- `build` meets its contract.
 use borrow.Author.Needs.{needs}
-use Rattle.class_build.specs.Goes.{builds-short, count-there, builds-begins, builds-on}
+use mathlib.Core.Path.{_∙_}
+use Rattle.class_build.specs.Goes.{builds-unbuilt, builds-ended}
 use Rattle.class_build.proofs.build.build.Statement.{statement}
 use Rattle.class_build.proofs.build.build.Tie as tie
 
-count-requires : tie.Need-count-requires
-count-requires c κs = let m = c .before .before .before .before .before .before .before .before .make-ready in count-there _ _ _ _ _ _ (m .last .1 .0) (m .last .1 .1 .0) _ _ _ _ _ (m .kept .1 .1 .0) (rw (c .before .before .k .given .1) at (m .ensures)) (c .before .before .before .before .before .before .before .before .before .before .before .before .before .before .before .before .before .before .pre .0)
+build-classes-requires : tie.Need-build-classes-requires
+build-classes-requires c κs = c .before .before .before .before .before .before .before .before .before .pre
 
-build-from-requires : tie.Need-build-from-requires
-build-from-requires c κs = let m = c .before .before .before .before .before .before .before .before .before .before .before .before .before .make-ready in builds-begins _ _ _ _ _ _ (m .last .1 .0) (m .last .1 .1 .0) _ _ _ _ _ (m .kept .1 .1 .0) (rw (c .before .before .before .before .before .before .before .k .given .1) at (m .ensures)) _ (c .before .before .before .before .count .ensures) (c .before .before .before .before .before .before .before .before .before .before .before .before .before .before .before .before .before .before .before .before .before .before .before .pre .0) (c .before .before .before .before .before .before .before .before .before .before .before .before .before .before .before .before .before .before .before .before .before .before .before .pre .1) (c .before .before .before .before .before .before .before .before .before .before .before .before .before .before .before .before .before .before .before .before .before .before .before .pre .2)
+finish-requires : tie.Need-finish-requires
+finish-requires c κs = (rw (c .before .before .before .before .before .s .given .1) at (c .before .before .before .before .before .before .before .before .before .before .before .before .before .before .before .build-classes .ensures)) .2
 
 returns : tie.Need-returns
-returns c = let m = c .before .before .before .before .before .before .before .before .before .before .before .before .before .before .before .before .before .before .before .before .before .before .make-ready in builds-on _ _ _ _ _ _ (m .last .1 .0) (m .last .1 .1 .0) _ _ _ _ _ (m .kept .1 .1 .0) (rw (c .before .before .before .before .before .before .before .before .before .before .before .before .before .before .before .before .k .given .1) at (m .ensures)) _ (c .before .before .before .before .before .before .before .before .before .before .before .before .before .count .ensures) _ _ (c .before .before .before .before .before .before .before .before .build-from .result) (c .before .before .before .before .before .before .before .before .build-from .ensures)
+returns c =
+    let d = c .before .before .before .before .before .before .before .before .before .before .before .before .before .before .before .before .before .before .build-classes in
+    let e = c .before .before .finish in
+    builds-ended _ _ _ _ _ (d .last .1 .0) (d .last .1 .1 .0) (d .last .1 .1 .1 .0) (d .last .1 .1 .1 .1 .0) _ _ _ _ (rw (c .before .before .before .before .before .before .before .before .s .given .1) at (d .ensures)) (e .result) (e .ensures)
 
 returns-2 : tie.Need-returns-2
-returns-2 c = let m = c .before .before .before .before .before .before .make-ready in builds-short _ _ _ _ _ _ (m .last .1 .0) (m .last .1 .1 .0) (rw (c .enum-told .given .1) at (m .ensures)) (m .last .1 .1 .0) (m .last .1 .1 .0)
+returns-2 c = let d = c .before .before .before .before .before .before .before .before .before .before .before .build-classes in builds-unbuilt _ _ _ _ _ (d .last .1 .0) (d .last .1 .1 .0) (d .last .1 .1 .1 .0) (d .last .1 .1 .1 .1 .0) _ _ (rw (c .before .x .given .1) at (d .ensures))
 
 pub build-spec : {M : Type 1} → statement M
 build-spec =
     tie.close
     (tie.spec
-    (λ c κs. search needs)
+    build-classes-requires
     (λ c. search needs)
-    count-requires
-    build-from-requires
+    finish-requires
     (λ c. search needs)
-    (λ c. search needs)
-    (λ c. search needs)
-    (λ c. search needs)
-    (λ c. search needs)
+    (λ c. c .before .before .finish .kept .1 .0 ∙ c .before .before .before .before .before .before .before .before .before .before .before .before .before .before .before .before .before .before .build-classes .kept .1 .0)
+    (λ c. c .before .before .before .before .before .before .before .before .before .before .before .before .before .before .before .before .before .before .build-classes .kept .1 .1 .0)
+    (λ c. c .before .before .before .before .before .before .before .before .before .before .before .before .before .before .before .before .before .before .build-classes .kept .1 .1 .1 .0)
+    (λ c. c .before .before .before .before .before .before .before .before .before .before .before .before .before .before .before .before .before .before .build-classes .kept .1 .1 .1 .1 .0)
     returns
     (λ c. search needs)
     (λ c. search needs)

@@ -17,7 +17,7 @@ figures-of-requires c κs = let N = rw (c .before .before .seen .given .1) at (c
 returns : tie.Need-returns
 returns c =
     let N = rw (c .before .before .before .seen .given .1) at (c .before .before .before .before .before .before .before .test-goals .ensures) in
-    (refl, refl, λ P b E. let G = N .1 _ _ _ _ P b (E .standing) (E .all) in (G .0, G .1, figures-are _ _ _ _ _ _ _ _ _ _ _ _ P b E _ (c .before .before .before .before .before .before .before .before .before .instance-tables .ensures) _ (N .0 .outside) _ (c .figures-of .ensures)))
+    (refl, refl, λ P b E. let G = N .1 _ _ _ _ P b (E .standing) (E .all) in (G .0, G .1, figures-are _ _ _ _ _ _ _ _ _ _ _ _ P b E _ (c .before .before .before .before .before .before .before .before .before .instance-tables .ensures) _ (record { long = N .0 .outside .long; words = N .0 .outside .ahead }) _ (c .figures-of .ensures)))
 
 returns-2 : tie.Need-returns-2
 returns-2 c = λ P b E. (rw (c .before .i .given .1) at (c .before .before .before .before .before .test-goals .ensures)) .1 _ _ _ _ P b (E .standing) (E .all)
