@@ -32,12 +32,12 @@ leftOf r class pattern graph work = record {
 }
 
 -- zeros behind the words that are the answer
-padded-is : (n : ℕ) (xs ys : List ℕ) (k : ℕ) → length xs ≡ k → take n xs ≡ ys → n ≤ length xs → zeroed n xs ≡ padded k ys
+pub padded-is : (n : ℕ) (xs ys : List ℕ) (k : ℕ) → length xs ≡ k → take n xs ≡ ys → n ≤ length xs → zeroed n xs ≡ padded k ys
 unfolding zeroed padded
 padded-is n xs ys k l e h = let m : length ys ≡ n = ap length (sym e) ∙ length-take-le n xs h in rw (e, l, m)
 
 -- zeros only
-padded-zero : (xs : List ℕ) (k : ℕ) → length xs ≡ k → zeroed 0 xs ≡ padded k []
+pub padded-zero : (xs : List ℕ) (k : ℕ) → length xs ≡ k → zeroed 0 xs ≡ padded k []
 padded-zero xs k l = zeroed-all xs ∙ ap (λ (n : ℕ). replicate n 0) l ∙ sym (padded-none k)
 
 -- what is left is what the definition says

@@ -25,11 +25,12 @@ use Rattle.definition.specs.Laws.Grow.{below-more}
 use Rattle.definition.specs.Laws.Store.{nodes-back, length-patternWords}
 use Rattle.definition.specs.Store.{nothing, patternWords, nodesIn}
 use Rattle.definition.specs.Answer.{Lent, answer, lengths, padded, mostCells}
-use Rattle.definition.specs.Run.{Run, done, outcome}
+use Rattle.definition.specs.Shown.{shownText}
+use Rattle.definition.specs.Run.{Note, Run, done, behind, _>>=_, outcome}
 use Rattle.definition.specs.Keys.{firstOf, predicateOf, isCut, ruleKey, keyOf, Keyed, noKeyed, keyed}
 use Rattle.definition.specs.Classes.{Class, noClass, Built, mark, rowWords, classWords}
 use Rattle.definition.specs.Figures.{figures}
-use Rattle.definition.specs.Calls.{Classed, classRun, classesLent, called, Left, answered, certClasses}
+use Rattle.definition.specs.Calls.{Classed, Shown, classRun, showRun, classesLent, showLent, called, Left, answered, certClasses, certShow}
 use Rattle.definition.specs.declared.Refusal.the-variants.{Limit}
 use Rattle.theory.specs.Derive.{InstanceOf, Derivation, leaf, by, Derivations, none as no-derivations, more, Shape, Shapes}
 use Rattle.theory.specs.Keys.Needed.{first-earlier}
@@ -41,7 +42,7 @@ use Rattle.theory.specs.Classes.Steps.{Concludes, step-derived}
 use Rattle.theory.specs.Classes.Built.{BuiltGood}
 use Rattle.theory.specs.Classes.RuleClass.{rule-made}
 use Rattle.theory.specs.Classes.GoalsMet.{never-stops}
-use Rattle.theory.specs.Principal.{patternsIn, rowIn, conclusionIn, Principal, DemandThree}
+use Rattle.theory.specs.Principal.{patternsIn, rowIn, conclusionIn, Principal, DemandThree, DemandThreeShown}
 
 -- so they begin what is read from the buffer
 patterns-begin : (n : ℕ) (s : List Node) → Grows s (patternsIn (padded n (patternWords s)))
@@ -210,25 +211,62 @@ unfolding certClasses
 classes-answered pack class pattern graph work c e = rw (e, certClasses)
 
 -- what it answers with
-classes-left : (l : Lent) (P : Pack) (c : Classed) → c .pack ≡ P → Principal P (length (c .built .classes)) (padded (l .class) (classWords P (c .built))) (padded (l .pattern) (patternWords (c .built .store)))
-    → (answered l c [] .returned ≡ answer none) × Principal P (answered l c [] .figures .classes) (answered l c [] .class) (answered l c [] .pattern)
+classes-left : (l : Lent) (P : Pack) (c : Classed) (text : List ℕ) → c .pack ≡ P → Principal P (length (c .built .classes)) (padded (l .class) (classWords P (c .built))) (padded (l .pattern) (patternWords (c .built .store)))
+    → (answered l c text .returned ≡ answer none) × Principal P (answered l c text .figures .classes) (answered l c text .class) (answered l c text .pattern)
 unfolding answered figures
-classes-left l P c e h = (refl, subst (λ (Q : Pack). Principal P (length (c .built .classes)) (padded (l .class) (classWords Q (c .built))) (padded (l .pattern) (patternWords (c .built .store)))) (sym e) h)
+classes-left l P c text e h = (refl, subst (λ (Q : Pack). Principal P (length (c .built .classes)) (padded (l .class) (classWords Q (c .built))) (padded (l .pattern) (patternWords (c .built .store)))) (sym e) h)
+
+-- what class building comes to on an accepted pack
+record Accounted (P : Pack) : Type 0 where
+  notes : List Note
+  classed : Classed
+  run : classRun P ≡ done notes classed
+  pack : classed .pack ≡ P
+  principal : (class pattern : ℕ) → Principal P (length (classed .built .classes)) (padded class (classWords P (classed .built))) (padded pattern (patternWords (classed .built .store)))
+
+accounted : (pack : List ℕ) → Bytes pack → (l : Lent) → l .pack ≡ length pack → (P : Pack) → parse pack ≡ fine P → Accepted P → lengths l ≡ none → Accounted P
+accounted pack h l long P p A e =
+    let G = parsed-good pack P p in
+    let F = parsed-few pack P p in
+    let O = parsed-once pack P p in
+    let fits = pack-fits l e in
+    let same = ap length (encode-parsed pack P h p) in
+    let few : length (P .steps) < nothing = omega (arith, steps-fit P, long) in
+    let R = never-stops P G F O A few (rule-made P G F O A few) in
+    record { notes = R .0; classed = R .1; run = R .2; pack = R .3; principal = λ class pattern. built-principal P G A (R .1 .built) (R .4) (R .5) class pattern }
 
 -- demand 3 of the definition's class call, on every pack of bytes and all lengths
 pub demand-three : (pack : List ℕ) → Bytes pack → (class pattern graph work : ℕ) → DemandThree pack class pattern graph work (certClasses pack class pattern graph work)
 demand-three pack h class pattern graph work P p A l enough =
     let lent = classesLent (length pack) class pattern graph work in
-    let G = parsed-good pack P p in
-    let F = parsed-few pack P p in
-    let O = parsed-once pack P p in
-    let fits = pack-fits lent l in
-    let same = ap length (encode-parsed pack P h p) in
-    let few : length (P .steps) < nothing = omega (arith, steps-fit P) in
-    let R = never-stops P G F O A few (rule-made P G F O A few) in
-    let c = R .1 in
-    let run : classRun P ≡ done (R .0) c = R .2 in
-    let fine-is : outcome lent (classRun P) ≡ fine c = ap (outcome lent) run ∙ enough-done lent (R .0) c (rw run at enough) in
+    let R = accounted pack h lent refl P p A l in
+    let c = R .classed in
+    let fine-is : outcome lent (classRun P) ≡ fine c = ap (outcome lent) (R .run) ∙ enough-done lent (R .notes) c (rw (R .run) at enough) in
     let left = classes-answered pack class pattern graph work c (call-fine classRun pack lent P c l p fine-is) in
     subst (λ (x : Left). (x .returned ≡ answer none) × Principal P (x .figures .classes) (x .class) (x .pattern)) (sym left)
-    (classes-left lent P c (R .3) (built-principal P G A (c .built) (R .4) (R .5) class pattern))
+    (classes-left lent P c [] (R .pack) (R .principal class pattern))
+
+-- the goals' text behind it
+show-run : (budget valueBudget : ℕ) (P : Pack) (ns : List Note) (c : Classed) → classRun P ≡ done ns c
+    → (ms : List Note) × (showRun budget valueBudget P ≡ done ms (record { classed = c; text = shownText P (c .built) budget valueBudget (c .roots) }))
+unfolding showRun _>>=_ behind
+show-run budget valueBudget P ns c e = (ns ++ (record { buffer = 5; fill = length (shownText P (c .built) budget valueBudget (c .roots)) } ∷ []), rw e)
+
+show-answered : (pack : List ℕ) (budget valueBudget class pattern graph work text : ℕ) (s : Shown) → called (showRun budget valueBudget) pack (showLent (length pack) class pattern graph work text) ≡ fine s
+    → certShow pack budget valueBudget class pattern graph work text ≡ answered (showLent (length pack) class pattern graph work text) (s .classed) (s .text)
+unfolding certShow
+show-answered pack budget valueBudget class pattern graph work text s e = rw (e, certShow)
+
+-- demand 3 of the definition's show call
+pub demand-three-shown : (pack : List ℕ) → Bytes pack → (budget valueBudget class pattern graph work text : ℕ)
+    → DemandThreeShown pack budget valueBudget class pattern graph work text (certShow pack budget valueBudget class pattern graph work text)
+demand-three-shown pack h budget valueBudget class pattern graph work text P p A l enough =
+    let lent = showLent (length pack) class pattern graph work text in
+    let R = accounted pack h lent refl P p A l in
+    let c = R .classed in
+    let s : Shown = record { classed = c; text = shownText P (c .built) budget valueBudget (c .roots) } in
+    let D = show-run budget valueBudget P (R .notes) c (R .run) in
+    let fine-is : outcome lent (showRun budget valueBudget P) ≡ fine s = ap (outcome lent) (D .1) ∙ enough-done lent (D .0) s (rw (D .1) at enough) in
+    let left = show-answered pack budget valueBudget class pattern graph work text s (call-fine (showRun budget valueBudget) pack lent P s l p fine-is) in
+    subst (λ (x : Left). (x .returned ≡ answer none) × Principal P (x .figures .classes) (x .class) (x .pattern)) (sym left)
+    (classes-left lent P c (s .text) (R .pack) (R .principal class pattern))

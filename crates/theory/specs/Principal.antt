@@ -13,10 +13,10 @@ use Rattle.definition.specs.Tree.{Tree, treeOf}
 use Rattle.definition.specs.Frame.{fine}
 use Rattle.definition.specs.Parse.{parse}
 use Rattle.definition.specs.Verdict.{Accepted}
-use Rattle.definition.specs.Answer.{answer, lengths}
-use Rattle.definition.specs.Run.{LongEnough}
+use Rattle.definition.specs.Answer.{Lent, answer, lengths}
+use Rattle.definition.specs.Run.{Run, LongEnough}
 use Rattle.definition.specs.Keys.{needed, keyOf}
-use Rattle.definition.specs.Calls.{classRun, classesLent, Left}
+use Rattle.definition.specs.Calls.{classRun, showRun, classesLent, showLent, Left}
 use Rattle.theory.specs.Derive.{Judgment, InstanceOf, Derivation, Shape}
 
 -- the pattern nodes, "by their number"
@@ -55,9 +55,17 @@ pub record Principal (P : Pack) (n : ℕ) (class pattern : List ℕ) : Type 0 wh
   -- "every class written" is some needed step's
   pub begun : (c : ℕ) → c < n → (s : ℕ) × (s < length (P .steps)) × (any (eqb s) (needed P) ≡ true) × (getD class s 0 ≡ c)
 
--- demand 3 of a class call: if the step check accepts the pack, "and the buffers are long enough and within document 01's limits,
+-- demand 3 of a call by its run: if the step check accepts the pack, "and the buffers are long enough and within document 01's limits,
 -- then class building never refuses", and what it writes is principal
-abbrev pub DemandThree : List ℕ → ℕ → ℕ → ℕ → ℕ → Left → Type 0
-DemandThree pack class pattern graph work left =
-    (P : Pack) → parse pack ≡ fine P → Accepted P → lengths (classesLent (length pack) class pattern graph work) ≡ none → LongEnough (classesLent (length pack) class pattern graph work) (classRun P)
+abbrev pub DemandThreeOf : {A : Type 0} → (Pack → Run A) → List ℕ → Lent → Left → Type 0
+DemandThreeOf run pack lent left =
+    (P : Pack) → parse pack ≡ fine P → Accepted P → lengths lent ≡ none → LongEnough lent (run P)
     → (left .returned ≡ answer none) × Principal P (left .figures .classes) (left .class) (left .pattern)
+
+-- of the class call
+abbrev pub DemandThree : List ℕ → ℕ → ℕ → ℕ → ℕ → Left → Type 0
+DemandThree pack class pattern graph work left = DemandThreeOf classRun pack (classesLent (length pack) class pattern graph work) left
+
+-- of the call that shows the goals, which builds the classes too
+abbrev pub DemandThreeShown : List ℕ → (budget valueBudget class pattern graph work text : ℕ) → Left → Type 0
+DemandThreeShown pack budget valueBudget class pattern graph work text left = DemandThreeOf (showRun budget valueBudget) pack (showLent (length pack) class pattern graph work text) left
