@@ -3,8 +3,8 @@
 # make vectors: record the vectors anew from the Rust original's source, HORN=FOLDER.
 # make bench: time the library beside the Rust original, HORN=FOLDER, and its reader and
 # step check.
-# make host: build the C examples, target/host/check and target/host/classes, over the
-# library's archive.
+# make host: build the C examples, target/host/check, classes and show, over the library's
+# archive.
 HORN ?= ../shared/docs/src
 CARGO = CARGO_TARGET_DIR=$(CURDIR)/target/tools cargo
 TOOLS = target/tools/release
@@ -31,7 +31,7 @@ dock: proved
 
 host: dock
 	@mkdir -p target/host
-	@for host in check classes; do \
+	@for host in check classes show; do \
 	    cc -std=c99 -Wall -Wextra -pedantic -O2 -Iinclude -o target/host/$$host examples/$$host.c examples/host.c target/staticlib/libdock.a || exit 1; \
 	done
 
@@ -46,6 +46,7 @@ bench: tools dock
 	@$(TOOLS)/bench walk --times
 	@$(TOOLS)/bench counts
 	@$(TOOLS)/bench classes --times
+	@$(TOOLS)/bench show --times
 	@$(TOOLS)/bench read
 	@$(TOOLS)/bench check
 
@@ -61,6 +62,9 @@ demo: tools host
 	@echo
 	@echo "Classes of its needed steps, by the library, called from C (examples/classes.c):"
 	@target/host/classes examples/nat.pack
+	@echo
+	@echo "Its goal in general form, with its variable's value, by the library, called from C (examples/show.c):"
+	@target/host/show examples/nat.pack
 	@echo
 	@echo "Its goals, proof lines and goal lines as recorded from the Rust original:"
 	@$(TOOLS)/certpack recorded tests/vectors nat

@@ -5,13 +5,13 @@
  *
  * One line says it. Exit status and refusals: host.h.
  */
-#include "cert.h"
 #include "host.h"
 
 #include <stdio.h>
 #include <stdlib.h>
 
 const char program[] = "check";
+const struct option options[] = {{NULL, NULL}};
 
 int run(const char *path, const uint8_t *pack, size_t length)
 {

@@ -6,72 +6,23 @@
  * A line says how many; then come each class with its most general conclusion and a line a
  * variable, and the figures. Exit status and refusals: host.h.
  */
-#include "cert.h"
 #include "host.h"
 
 #include <inttypes.h>
-#include <stdbool.h>
 #include <stdio.h>
-#include <stdlib.h>
 
 const char program[] = "classes";
+const struct option options[] = {{NULL, NULL}};
 
-/* The buffers by their numbers. */
-enum { CLASS = CERT_CLASSES, PATTERN = CERT_PATTERN, GRAPH = CERT_GRAPH, WORK = CERT_WORK };
-
-struct lent {
-    uint32_t *cells[WORK + 1];
-    size_t length[WORK + 1];
-};
-
-static void give_back(struct lent *lent)
+static struct cert_answer call(const uint8_t *pack, size_t length, const struct lent *lent,
+                               void *answer)
 {
-    for (int i = CLASS; i <= WORK; i++)
-        free(lent->cells[i]);
-}
-
-/* Buffers of these lengths, with the work that they ask for: less than 2^30 words, however
- * long they are. False if there is no memory for one. */
-static bool lend(struct lent *lent, size_t pack_len)
-{
-    bool all = true;
-    lent->length[WORK] = cert_least_work(lent->length[PATTERN], lent->length[GRAPH], pack_len);
-    for (int i = CLASS; i <= WORK; i++) {
-        lent->cells[i] = malloc(lent->length[i] * sizeof *lent->cells[i]);
-        all = all && lent->cells[i];
-    }
-    return all;
-}
-
-/* A short buffer is to be twice as long; false if it can't be longer. */
-static bool lengthen(struct lent *lent, uint64_t buffer)
-{
-    if (buffer < CLASS || buffer > GRAPH || lent->length[buffer] >= CERT_MOST_CELLS)
-        return false;
-    size_t twice = 2 * lent->length[buffer];
-    lent->length[buffer] = twice < CERT_MOST_CELLS ? twice : CERT_MOST_CELLS;
-    return true;
-}
-
-/* The answer in buffers that aren't short, if there are such; false if there is no memory. */
-static bool build(const uint8_t *pack, size_t length, struct lent *lent,
-                  struct cert_classes_answer *answer)
-{
-    /* A pack that is too long is refused by its length, whatever the buffers. A step's
-     * record has 14 bytes at least. */
-    size_t pack_len = length > CERT_MOST_CELLS ? 0 : length;
-    *lent = (struct lent){
-        .length = {[CLASS] = pack_len / 14 + 64, [PATTERN] = 1024, [GRAPH] = 1024},
-    };
-    do {
-        give_back(lent);
-        if (!lend(lent, pack_len))
-            return false;
-        *answer = cert_classes(pack, length, lent->cells[CLASS], lent->length[CLASS],
-                               lent->cells[PATTERN], lent->length[PATTERN], lent->cells[GRAPH],
-                               lent->length[GRAPH], lent->cells[WORK], lent->length[WORK]);
-    } while (answer->code == CERT_SHORT && lengthen(lent, answer->place));
-    return true;
+    struct cert_classes_answer *classes = answer;
+    *classes = cert_classes(pack, length, lent->cells[CERT_CLASSES], lent->length[CERT_CLASSES],
+                            lent->cells[CERT_PATTERN], lent->length[CERT_PATTERN],
+                            lent->cells[CERT_GRAPH], lent->length[CERT_GRAPH],
+                            lent->cells[CERT_WORK], lent->length[CERT_WORK]);
+    return (struct cert_answer){classes->code, classes->place};
 }
 
 /* Little-endian fields, and a record's parts: length, kind, body. */
@@ -279,11 +230,12 @@ static void print_figures(const struct cert_figures *figures)
 static void print_all(const char *path, const uint8_t *pack, size_t length,
                       const struct lent *lent, const struct cert_figures *figures)
 {
-    struct view view = {.class_words = lent->cells[CLASS], .pattern_words = lent->cells[PATTERN]};
+    struct view view = {.class_words = lent->cells[CERT_CLASSES],
+                        .pattern_words = lent->cells[CERT_PATTERN]};
     see_records(&view, pack, length);
 
     /* Work is the host's again, and has a word for each pattern node. */
-    uint32_t *node = lent->cells[WORK], at = 0;
+    uint32_t *node = lent->cells[CERT_WORK], at = 0;
     for (uint64_t i = 0; i < figures->pattern_nodes; i++) {
         node[i] = at;
         at += 2 + view.pattern_words[at];
@@ -304,7 +256,7 @@ int run(const char *path, const uint8_t *pack, size_t length)
     struct lent lent;
     struct cert_classes_answer answer;
     int status = ACCEPTED;
-    if (!build(pack, length, &lent, &answer))
+    if (!grow(pack, length, 0, call, &lent, &answer))
         status = fault(path, "out of memory");
     else if (answer.code != CERT_DONE)
         status = refused(path, length, answer.code, answer.place);

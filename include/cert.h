@@ -37,7 +37,7 @@ enum {
 };
 
 /* The numbers of buffers, as CERT_SHORT gives them for its place. */
-enum { CERT_CLASSES = 1, CERT_PATTERN, CERT_GRAPH, CERT_WORK };
+enum { CERT_CLASSES = 1, CERT_PATTERN, CERT_GRAPH, CERT_WORK, CERT_TEXT };
 
 /* The most bytes of a pack or cells of a buffer, and the most words of work. */
 #define CERT_MOST_CELLS ((size_t)1 << 24)
@@ -165,6 +165,56 @@ struct cert_classes_answer cert_classes(const uint8_t *pack, size_t pack_len,
                                         uint32_t *pattern, size_t pattern_len,
                                         uint32_t *graph, size_t graph_len, uint32_t *work,
                                         size_t work_len);
+
+/* The number of an answer, its place, how many bytes of text there are, and the figures. */
+struct cert_show_answer {
+    uint64_t code, place;
+    uint64_t text_len; /* 0 with a refusal */
+    struct cert_figures figures;
+};
+
+/*
+ * The goals of a pack in their general forms, with the values of their variables, as text.
+ * The classes come with it, as cert_classes gives them.
+ *
+ * budget        as many nodes of a general form are shown, 60 as a rule
+ * value_budget  as many nodes of a value are shown, 12 as a rule
+ * Both are taken anew for each form and each value, and neither has a limit of its own.
+ *
+ * Lent:
+ *   pack     pack_len bytes, at most 2^24
+ *   classes  classes_len words, at most 2^24: class words, as in cert_classes
+ *   pattern  pattern_len words, at most 2^24: pattern words, as in cert_classes
+ *   graph    graph_len cells, at most 2^24; zero behind the call
+ *   work     work_len words, at least cert_least_work(pattern_len, graph_len, pack_len) and
+ *            at most 2^30; zero behind the call. Text adds nothing to the least
+ *   text     text_len bytes, at most 2^24: the lines, and zeros behind them
+ *
+ * Text: for each goal, ascending, a line of its name, a blank and the general form, which is
+ * the conclusion of its class; then a line for each variable of the conclusion, ascending,
+ * as `?v0 : Nat 1 (s z)`: number, sort, flex mark 1 or 0, value. A node takes a unit of the
+ * budget, a variable too, from left to right. Spent, it shows an ellipsis (bytes E2 80 A6)
+ * for each further argument; brackets that are open are closed. A judgment stands in
+ * brackets, `(q)`, a constant does not. Each line ends in a newline, the last one too. How
+ * many bytes all lines have is the answer's text_len; a pack without goals has none.
+ *
+ * Code and place are as in cert_classes, and besides:
+ *   2  0       text_len too is a length that can be over its limit
+ *   8  5       text is short
+ *
+ * Text is written behind all else: classes, then the goals' tests, then text. So a 4 or 7 at
+ * a goal, or an 8 at another buffer, comes ahead of any 8 at 5.
+ *
+ * Every cell of the five buffers is zero behind a refusal. Behind an 8 at 1, 2, 3 or 5 lend
+ * that buffer longer, with work for the new lengths, and call again. An 8 at a text of 2^24
+ * bytes stands for these budgets: what a term shares comes again in its text at each place,
+ * so that the text of a small pack can be longer than any buffer. A smaller budget ends it.
+ */
+struct cert_show_answer cert_show(const uint8_t *pack, size_t pack_len, uint64_t budget,
+                                  uint64_t value_budget, uint32_t *classes,
+                                  size_t classes_len, uint32_t *pattern, size_t pattern_len,
+                                  uint32_t *graph, size_t graph_len, uint32_t *work,
+                                  size_t work_len, uint8_t *text, size_t text_len);
 
 #ifdef __cplusplus
 }

@@ -1,5 +1,7 @@
 //! The C face of the library's class building, and the buffers lent to it.
 use crate::ours::zeros;
+use std::fmt::Display;
+use std::ops::BitOr;
 
 /// How many figures a call returns.
 pub const FIGURES: usize = 13;
@@ -55,26 +57,35 @@ impl Lent {
         Lent(lengths.map(|length| vec![JUNK; length]))
     }
 
+    pub fn lengths(&self) -> Lengths {
+        self.0.each_ref().map(Vec::len)
+    }
+
     pub fn call(&mut self, pack: &[u8]) -> Returned {
         let [class, pattern, graph, work] = &mut self.0;
         classes(pack, [class, pattern, graph, work])
     }
 
+    /// The class and pattern words behind an answer of 0, of a pack with so many steps,
+    /// without the zeros.
+    pub fn words(&self, steps: usize, returned: Returned) -> Result<[&[u32]; 2], String> {
+        let [class, pattern, ..] = &self.0;
+        let [_, classes, _, nodes, ..] = returned.figures;
+        let (mut rows, mut end) = (steps, 0);
+        for _ in 0..classes {
+            rows += 3 + *class.get(rows + 2).ok_or("too few class words")? as usize;
+        }
+        for _ in 0..nodes {
+            end += 2 + *pattern.get(end).ok_or("too few pattern words")? as usize;
+        }
+        let class = class.get(..rows).ok_or("too few class words")?;
+        let pattern = pattern.get(..end).ok_or("too few pattern words")?;
+        Ok([class, pattern])
+    }
+
     /// That buffer `i` holds these words and zeros behind them.
     pub fn holds(&self, i: usize, words: &[u32]) -> Result<(), String> {
-        let buffer = &self.0[i];
-        let at = |why: String| format!("buffer {}: {why}", i + 1);
-        let Some((front, behind)) = buffer.split_at_checked(words.len()) else {
-            return Err(at(format!(
-                "{} cells for {} words",
-                buffer.len(),
-                words.len()
-            )));
-        };
-        match front.iter().zip(words).position(|(a, b)| a != b) {
-            Some(k) => Err(at(format!("cell {k} is {}, not {}", front[k], words[k]))),
-            None => zeros("what stands behind the words", behind).map_err(at),
-        }
+        holds(&self.0[i], words).map_err(|why| format!("buffer {}: {why}", i + 1))
     }
 
     /// That a refusal has no figures and left zeros only.
@@ -101,6 +112,20 @@ impl Lent {
                 _ => return Err(format!("8 at {} with cells {cells:?}", returned.place)),
             }
         }
+    }
+}
+
+/// That a buffer holds these cells and zeros behind them.
+pub fn holds<T>(buffer: &[T], cells: &[T]) -> Result<(), String>
+where
+    T: BitOr<Output = T> + Copy + Default + Display + PartialEq,
+{
+    let Some((front, behind)) = buffer.split_at_checked(cells.len()) else {
+        return Err(format!("{} cells for {}", buffer.len(), cells.len()));
+    };
+    match front.iter().zip(cells).position(|(a, b)| a != b) {
+        Some(k) => Err(format!("cell {k} is {}, not {}", front[k], cells[k])),
+        None => zeros("what stands behind them", behind),
     }
 }
 

@@ -19,18 +19,27 @@ fn no_instance(place: u64) -> Answer {
     Answer { code: 7, place }
 }
 
-/// nat(z) by its rule, a result; nat cut or not.
+/// nat(z) by its rule, a result.
+const ONE_STEP: Parts = Parts {
+    rules: &NUMBERS,
+    nodes: &[],
+    steps: &[&[0, NAT_0]],
+    goals: &[],
+    results: &[(0, "r")],
+    behind: &[],
+};
+
+/// That step, nat cut or not.
 pub fn one_step_pack(cut: bool) -> Vec<u8> {
     let cuts = [plain(8, &[NAT])];
-    Parts {
-        rules: &NUMBERS,
-        steps: &[&[0, NAT_0]],
-        results: &[(0, "r")],
-        behind: if cut { &cuts } else { &[] },
-        ..Parts::default()
-    }
-    .records()
-    .concat()
+    let behind: &[Vec<u8>] = if cut { &cuts } else { &[] };
+    Parts { behind, ..ONE_STEP }.records().concat()
+}
+
+/// That step, and a goal on its judgment: it is met if its name is the result's, `r`.
+pub fn one_goal_pack(name: &str) -> Vec<u8> {
+    let goals = &[(NAT_0, name)];
+    Parts { goals, ..ONE_STEP }.records().concat()
 }
 
 pub fn tries() -> Tries {

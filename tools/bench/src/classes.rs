@@ -115,7 +115,7 @@ impl std::fmt::Display for Wrong {
 }
 
 /// Whether the step check accepts a pack, by certpack.
-fn accepted(bytes: &[u8]) -> bool {
+pub fn accepted(bytes: &[u8]) -> bool {
     pack::decode(bytes).is_ok_and(|pack| verdict(&pack).is_none())
 }
 

@@ -2,15 +2,16 @@
 use crate::building::{FIGURES, Lengths, Lent, Returned, classes};
 use crate::clock;
 use crate::generalize::{Stats, generalize};
-use crate::joints::{CUT, Certificate, certificate};
-use crate::numbers::{judged, median};
+use crate::joints::{CUT, Certificate, GOALS, certificate};
+use crate::numbers::judged;
 use crate::read::{GOOD, parse};
+use crate::rounds::{LIBRARY, Turn, families, head, medians, row};
 use std::fmt::Write as _;
 use std::hint::black_box;
 use std::ops::RangeInclusive;
 use std::time::{Duration, Instant};
 
-const SIZES: [usize; 3] = [1_000, 10_000, 100_000];
+pub const SIZES: [usize; 3] = [1_000, 10_000, 100_000];
 /// A step of the largest certificate may take so many times what one of the smallest takes.
 const MOST_GROWTH: f64 = 5.0;
 
@@ -27,14 +28,14 @@ long as they are needed, work as short as it may be.
   ratio     building over original
 ";
 
-struct Family {
-    name: &'static str,
-    what: &'static str,
+pub struct Family {
+    pub name: &'static str,
+    pub what: &'static str,
     /// How often a counter ticks.
-    ticks: RangeInclusive<usize>,
+    pub ticks: RangeInclusive<usize>,
 }
 
-const FAMILIES: [Family; 2] = [
+pub const FAMILIES: [Family; 2] = [
     Family {
         name: "few",
         what: "counters of 6 to 12 ticks: some hundred classes, whatever the size",
@@ -67,7 +68,7 @@ struct Row {
     family: &'static str,
     steps: usize,
     bytes: usize,
-    classes: u64,
+    classes: usize,
     times: [f64; PARTS.len()],
 }
 
@@ -86,7 +87,7 @@ pub fn report(quick: bool) -> Result<String, String> {
     let mut rows = Vec::new();
     for family in &FAMILIES {
         for size in SIZES.into_iter().filter(|&size| size <= most) {
-            let made = certificate(size, family.ticks.clone());
+            let made = certificate(size, family.ticks.clone(), GOALS);
             let row = measure(family.name, &made, most / size, rounds);
             rows.push(row.map_err(|why| format!("{}, {size} steps: {why}", family.name))?);
         }
@@ -110,31 +111,17 @@ fn measure(
     }
     let lengths = lent.0.map(|buffer| buffer.len());
     let mut places: Vec<Place> = (0..runs).map(|_| Place::new(&pack, lengths)).collect();
-    let mut told = [const { Vec::new() }; PARTS.len()];
-    // The first round is not counted: in it all memory is made to be there.
-    for round in 0..=rounds {
-        let mut sums = [Duration::ZERO; TIMED];
-        for i in 0..runs {
-            for side in [round % 2, 1 - round % 2] {
-                match side {
-                    0 => library(&mut places, i, built, &mut sums)?,
-                    _ => original(made, built, &mut sums)?,
-                }
-            }
-        }
-        if round > 0 {
-            let times = sums.map(|sum| sum.as_nanos() as f64 / runs as f64);
-            for (told, time) in told.iter_mut().zip(parts(times)) {
-                told.push(time);
-            }
-        }
-    }
+    let one = |turn: Turn, sums: &mut _| match turn.side {
+        LIBRARY => library(&mut places, turn.run, built, sums),
+        _ => original(made, built, sums),
+    };
+    let times = medians(rounds, runs, one, parts)?;
     Ok(Row {
         family,
         steps: made.steps,
         bytes: pack.len(),
-        classes: built.figures[1],
-        times: told.map(median),
+        classes: built.figures[1] as usize,
+        times,
     })
 }
 
@@ -186,12 +173,21 @@ fn library(
     Ok(())
 }
 
-/// One run of the original from the text; its figures must be the library's.
+/// One run of the original; its figures must be the library's.
 fn original(
     made: &Certificate,
     built: Returned,
     sums: &mut [Duration; TIMED],
 ) -> Result<(), String> {
+    let (_, laps) = original_run(made, built)?;
+    sums[4] += laps[0];
+    sums[5] += laps[1];
+    Ok(())
+}
+
+/// One run of the original from the text, whose figures must be these: what it says, and how
+/// long it took to make the classes and on to the end of the goals.
+pub fn original_run(made: &Certificate, built: Returned) -> Result<(Stats, [Duration; 2]), String> {
     clock::take();
     let (stats, _) = generalize(
         &made.theory,
@@ -208,9 +204,7 @@ fn original(
     if figures(&stats) != built.figures {
         return Err(format!("the original's figures are {stats:?}"));
     }
-    sums[4] += made - read;
-    sums[5] += shown - made;
-    Ok(())
+    Ok((stats, [made - read, shown - made]))
 }
 
 fn figures(stats: &Stats) -> [u64; FIGURES] {
@@ -234,29 +228,13 @@ fn figures(stats: &Stats) -> [u64; FIGURES] {
 }
 
 fn table(rows: &[Row], rounds: usize) -> String {
-    let mut out = format!("Building classes, {rounds} rounds\n{NOTES}\nFamilies\n");
-    for family in &FAMILIES {
-        let _ = writeln!(out, "  {:4}  {}", family.name, family.what);
-    }
-    let _ = write!(
-        out,
-        "\n{:4} {:>7} {:>8} {:>8}",
-        "", "steps", "bytes", "classes"
-    );
-    for part in PARTS {
-        let _ = write!(out, " {part:>9}");
-    }
-    let _ = writeln!(out, " {:>6}", "ratio");
-    for row in rows {
-        let _ = write!(
-            out,
-            "{:4} {:>7} {:>8} {:>8}",
-            row.family, row.steps, row.bytes, row.classes
-        );
-        for time in row.times {
-            let _ = write!(out, " {:>9.3}", time / 1e6);
-        }
-        let _ = writeln!(out, " {:>6.2}", row.ratio());
+    let families = families(&FAMILIES);
+    let head = head(["steps", "bytes", "classes"], &PARTS);
+    let mut out = format!("Building classes, {rounds} rounds\n{NOTES}\n{families}\n{head}");
+    for one in rows {
+        let numbers = [one.steps, one.bytes, one.classes];
+        let ratio = format!("{:.2}", one.ratio());
+        out += &row(one.family, numbers, &one.times, &ratio);
     }
     out
 }

@@ -7,8 +7,8 @@ use std::ops::RangeInclusive;
 
 /// The cut predicate.
 pub const CUT: &str = "nat";
-/// So many goals, as far as there are results.
-const GOALS: usize = 40;
+/// So many goals as a rule.
+pub const GOALS: usize = 40;
 /// Joints are numbered by so many digits.
 const DIGITS: u32 = 4;
 
@@ -95,8 +95,9 @@ impl Proof {
     }
 }
 
-/// A certificate of about so many steps; each counter ticks a number of times from this range.
-pub fn certificate(steps: usize, ticks: RangeInclusive<usize>) -> Certificate {
+/// A certificate of about so many steps and at most so many goals, as far as there are results;
+/// each counter ticks a number of times from this range.
+pub fn certificate(steps: usize, ticks: RangeInclusive<usize>, goals: usize) -> Certificate {
     let mut drawn = Numbers::default();
     let mut proof = Proof::default();
     // Step k is nat(k).
@@ -130,14 +131,14 @@ pub fn certificate(steps: usize, ticks: RangeInclusive<usize>) -> Certificate {
         }
         before = Some((here, loss, n + 1));
     }
-    let apart = proof.results.len().div_ceil(GOALS).max(1) | 1;
-    let mut goals = String::new();
+    let apart = proof.results.len().div_ceil(goals).max(1) | 1;
+    let mut asked = String::new();
     for (name, judgment) in proof.results.iter().enumerate().step_by(apart) {
-        let _ = writeln!(goals, "(goal g{name} {judgment})");
+        let _ = writeln!(asked, "(goal g{name} {judgment})");
     }
     Certificate {
         theory: theory(),
-        goals,
+        goals: asked,
         proof: proof.text,
         steps: proof.steps,
     }

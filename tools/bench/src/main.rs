@@ -31,6 +31,13 @@ mod read;
 mod reads;
 mod recorded;
 mod records;
+#[cfg(feature = "original")]
+mod rounds;
+mod show;
+#[cfg(feature = "original")]
+mod show_pace;
+mod show_packs;
+mod showing;
 mod single;
 #[cfg(feature = "original")]
 #[allow(dead_code)]
@@ -88,6 +95,15 @@ bench: the library beside the Rust original
                           steps, in the library and in the original
   bench classes --times --quick
                           up to 10,000 steps and fewer rounds, for tests
+  bench show FOLDER       show the goals of every recorded pack of FOLDER in the library;
+                          check the text beside the recorded one and, at other budgets,
+                          certpack's, in a buffer just long enough and a byte too
+                          short; the same with wrong steps and goals, drawn packs, deep
+                          and shared terms; all words as class building has them
+  bench show --times      time the goals of the same certificates as bench classes, in
+                          the library and in the original
+  bench show --times --quick
+                          up to 10,000 steps and fewer rounds, for tests
   bench unify             unify printed sets of terms and drawn pairs in the library; check
                           what comes back beside Robinson's algorithm or a plain
                           unifier, and beside the original where it is in the build
@@ -111,10 +127,12 @@ Exit status: 0 done; 1 a difference, a fault in the input, a full `bench read` i
 reading a byte of a largest pack takes over 3 times as long as one of a smallest, a full
 `bench check` or `bench classes --times` in which a step takes over 5 times as long, a full
 `bench classes --times` in which the largest takes longer than in the original, a full
+`bench show --times` in which goals take longer than in the original, a full
 `bench unify --times` or `bench walk --times` in which four times the size takes over 5
-times as long from each size to the next, a full `bench walk --times` in which a node of a largest pattern takes over
-5 times as long as one of a smallest, or `bench counts` in which four times the size takes
-over 5 times as many instructions, said in one line on standard error; 2 a wrong call.
+times as long from each size to the next, a full `bench walk --times` in which a node of a
+largest pattern takes over 5 times as long as one of a smallest, or `bench counts` in which
+four times the size takes over 5 times as many instructions, said in one line on standard
+error; 2 a wrong call.
 ";
 
 fn main() -> ExitCode {
@@ -136,6 +154,9 @@ fn run(args: &[&str]) -> Result<String, Fault> {
         ["classes", "--times"] => beside("classes --times", false),
         ["classes", "--times", "--quick"] => beside("classes --times", true),
         ["classes", folder] => Ok(classes::check(folder)?),
+        ["show", "--times"] => beside("show --times", false),
+        ["show", "--times", "--quick"] => beside("show --times", true),
+        ["show", folder] => Ok(show::check(folder)?),
         ["unify"] => Ok(unify::check()?),
         ["unify", "--times"] => beside("unify --times", false),
         ["unify", "--times", "--quick"] => beside("unify --times", true),
@@ -154,6 +175,7 @@ fn beside(what: &str, quick: bool) -> Result<String, Fault> {
     let report = match what {
         "intern" => intern::report,
         "classes --times" => classes_pace::report,
+        "show --times" => show_pace::report,
         "unify --times" => unify_pace::report,
         _ => walk_pace::report,
     };

@@ -1,4 +1,6 @@
 //! The library's C face, and the buffers lent to it.
+use std::fmt::Display;
+use std::ops::BitOr;
 
 /// What a call says: 0 done, 2 lengths, 8 short; and how many distinct nodes there are.
 #[repr(C)]
@@ -114,11 +116,15 @@ fn differ(a: &[u32], b: &[u32]) -> Option<usize> {
     a.iter().zip(b).position(|(x, y)| x != y)
 }
 
-pub fn zeros(name: &str, buffer: &[u32]) -> Result<(), String> {
+/// That words or bytes are all 0.
+pub fn zeros<T>(name: &str, buffer: &[T]) -> Result<(), String>
+where
+    T: BitOr<Output = T> + Copy + Default + Display + PartialEq,
+{
     // Without a way out in the loop it is several words at a time.
-    if buffer.iter().fold(0, |seen, w| seen | w) == 0 {
+    if buffer.iter().fold(T::default(), |seen, &w| seen | w) == T::default() {
         return Ok(());
     }
-    let i = buffer.iter().position(|&w| w != 0).unwrap_or(0);
+    let i = buffer.iter().position(|&w| w != T::default()).unwrap_or(0);
     Err(format!("{name}: place {i} holds {}, not 0", buffer[i]))
 }

@@ -2,14 +2,12 @@
 //! patterns, figures, shown goals and lines, tested on the recorded words and text.
 use crate::needed::{first_steps, is_cut, needed, predicate, refs, slot};
 use crate::pack::{Pack, decode};
+use crate::shown::{self, Budgets, VAR};
 use crate::vectors::Case;
 use crate::verdict::verdict;
 use std::collections::{BTreeSet, HashMap, HashSet};
-use std::fmt::Write as _;
 
 const NONE: u32 = u32::MAX;
-/// Head of a pattern variable.
-const VAR: u32 = u32::MAX - 1;
 
 type Judged = Result<(), String>;
 
@@ -36,14 +34,16 @@ pub fn judge(case: &Case) -> Judged {
     if case.classes != "done" {
         return test(case.emit != "done", "emission without classes");
     }
-    let run = Run::read(&pack, case)?;
+    let run = Run::of(&pack, case)?;
     run.classes()?;
     run.figures(&case.figures)?;
     // Where a goal has not its result's judgment the original answers what no paper asks for.
     if verdict.is_some() {
         return Ok(());
     }
-    run.goals(case)?;
+    // Text that is longer than the recorded one is another.
+    let text = run.shown(shown::AS_A_RULE, case.shown.len())?;
+    test(text.as_ref() == Some(&case.shown), "the shown goals")?;
     run.opens(&case.open)?;
     match case.emit == "done" {
         true => emission(&pack, case),
@@ -53,7 +53,7 @@ pub fn judge(case: &Case) -> Judged {
 
 /// The conclusion of each goal's class, as its pattern's number, and how many variables the class has.
 pub fn conclusions(pack: &Pack, case: &Case) -> Result<Vec<(u32, usize)>, String> {
-    let run = Run::read(pack, case)?;
+    let run = Run::of(pack, case)?;
     let rows = run.goal_rows()?.into_iter();
     Ok(rows.map(|row| (row.conclusion, row.flex.len())).collect())
 }
@@ -64,7 +64,8 @@ struct Row {
     flex: Vec<u32>,
 }
 
-struct Run<'a> {
+/// What class and pattern words say of a pack.
+pub struct Run<'a> {
     pack: &'a Pack,
     class_of: &'a [u32],
     rows: Vec<Row>,
@@ -115,12 +116,21 @@ fn well_formed(pack: &Pack, nodes: &[&[u32]]) -> Judged {
 }
 
 impl<'a> Run<'a> {
-    fn read(pack: &'a Pack, case: &'a Case) -> Result<Self, String> {
-        let patterns = nodes(&case.pattern_words)?;
+    fn of(pack: &'a Pack, case: &'a Case) -> Result<Self, String> {
+        Run::read(pack, &case.class_words, &case.pattern_words)
+    }
+
+    /// The words without the zeros behind them.
+    pub fn read(
+        pack: &'a Pack,
+        class_words: &'a [u32],
+        pattern_words: &'a [u32],
+    ) -> Result<Self, String> {
+        let patterns = nodes(pattern_words)?;
         well_formed(pack, &patterns)?;
         let n = pack.steps.len();
-        test(case.class_words.len() >= n, "fewer class words than steps")?;
-        let (class_of, mut rest) = case.class_words.split_at(n);
+        test(class_words.len() >= n, "fewer class words than steps")?;
+        let (class_of, mut rest) = class_words.split_at(n);
         let mut rows = Vec::new();
         while !rest.is_empty() {
             test(rest.len() >= 3, "a class row that is cut")?;
@@ -270,7 +280,10 @@ impl<'a> Run<'a> {
         let row = |name: &str| {
             let step = results.get(name).ok_or("a goal without a result")?;
             let class = self.class_of[self.first[*step as usize] as usize];
-            Ok(&self.rows[class as usize])
+            Ok(self
+                .rows
+                .get(class as usize)
+                .ok_or("a goal without a class")?)
         };
         self.pack.goals.iter().map(|g| row(&g.name)).collect()
     }
@@ -317,10 +330,12 @@ impl<'a> Run<'a> {
         standing.into_iter().collect()
     }
 
-    /// The shown text is what the words say, with budgets 60 and 12.
-    fn goals(&self, case: &Case) -> Judged {
-        let mut text = String::new();
-        for (goal, row) in self.pack.goals.iter().zip(self.goal_rows()?) {
+    /// The goals as the words say that they are shown; none if the text has more bytes than
+    /// `most`.
+    pub fn shown(&self, budgets: Budgets, most: usize) -> Result<Option<String>, String> {
+        let rows = self.goal_rows()?;
+        let mut goals = Vec::new();
+        for (goal, row) in self.pack.goals.iter().zip(rows) {
             let mut values = HashMap::new();
             test(
                 self.instance(row.conclusion, goal.at, &mut values),
@@ -329,72 +344,35 @@ impl<'a> Run<'a> {
                     goal.name
                 ),
             )?;
-            let _ = write!(text, "{} ", goal.name);
-            self.show(row.conclusion, &mut 60, &mut text);
-            text.push('\n');
-            let mut shown: Vec<(u32, u32)> = values.into_iter().collect();
-            shown.sort();
-            for (k, value) in shown {
-                let sort = &self.pack.sorts[self.pack.sort_of(value) as usize];
-                let mark = row
-                    .flex
-                    .get(k as usize)
-                    .ok_or("a variable without a mark")?;
-                let _ = write!(text, "?v{k} : {sort} {mark} ");
-                self.show_ground(value, &mut 12, &mut text);
-                text.push('\n');
-            }
+            goals.push(shown::Goal {
+                name: &goal.name,
+                form: row.conclusion,
+                variables: variables(row, values)?,
+            });
         }
-        test(text == case.shown, "the shown goals")
-    }
-
-    fn show(&self, p: u32, budget: &mut usize, out: &mut String) {
-        let node = self.patterns[p as usize];
-        if spent(budget, out) {
-            return;
-        }
-        if node[0] == VAR {
-            let _ = write!(out, "?v{}", node[1]);
-            return;
-        }
-        let open = self.open(node, out);
-        for &a in &node[1..] {
-            out.push(' ');
-            self.show(a, budget, out);
-        }
-        out.push_str(open);
-    }
-
-    fn show_ground(&self, g: u32, budget: &mut usize, out: &mut String) {
-        let node = &self.pack.nodes[g as usize];
-        if spent(budget, out) {
-            return;
-        }
-        let open = self.open(node, out);
-        for &a in &node[1..] {
-            out.push(' ');
-            self.show_ground(a, budget, out);
-        }
-        out.push_str(open);
-    }
-
-    /// Write the head; answers the bracket that closes it.
-    fn open(&self, node: &[u32], out: &mut String) -> &'static str {
-        let name = &self.pack.symbols[node[0] as usize].name;
-        let bare = node.len() == 1 && !self.pack.is_predicate(node[0]);
-        let _ = write!(out, "{}{name}", if bare { "" } else { "(" });
-        if bare { "" } else { ")" }
+        Ok(shown::text(
+            self.pack,
+            &self.patterns,
+            &goals,
+            budgets,
+            most,
+        ))
     }
 }
 
-fn spent(budget: &mut usize, out: &mut String) -> bool {
-    let spent = *budget == 0;
-    if spent {
-        out.push('…');
-    } else {
-        *budget -= 1;
-    }
-    spent
+/// The variables of a conclusion with their marks and values, ascending.
+fn variables(row: &Row, values: HashMap<u32, u32>) -> Result<Vec<shown::Variable>, String> {
+    let mut values: Vec<(u32, u32)> = values.into_iter().collect();
+    values.sort();
+    let marked = values.into_iter().map(|(number, value)| {
+        let flex = row.flex.get(number as usize);
+        Ok(shown::Variable {
+            number,
+            flex: *flex.ok_or("a variable without a mark")?,
+            value,
+        })
+    });
+    marked.collect()
 }
 
 /// The emitted lines agree with the counts and with each other.

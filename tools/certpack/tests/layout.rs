@@ -100,35 +100,31 @@ fn every_call_fits() {
 fn the_sums_are_true() {
     let regions = rows("## Regions");
     let sums = rows("## Sum");
-    for (row, calls) in sums
-        .iter()
-        .zip([&["check"][..], &["classes", "show"], &["emit"]])
-    {
-        for call in calls {
-            let mut per = [0.0; 3];
-            let mut constant = 0;
-            for r in regions
-                .iter()
-                .filter(|r| r[5].split(' ').any(|c| c == *call))
-            {
-                let words: f64 = r[2].parse().expect("a number");
-                constant += r[3].parse::<u64>().expect("a number");
-                match r[1].as_str() {
-                    "P" => per[0] += words / 2.0,
-                    "G" => per[1] += words,
-                    "–" => {}
-                    letter => per[2] += words / f64::from(shortest(letter)),
-                }
+    for call in ["check", "classes", "show", "emit"] {
+        let row = sums.iter().find(|r| r[0] == call).expect("the call's sums");
+        let mut per = [0.0; 3];
+        let mut constant = 0;
+        for r in regions
+            .iter()
+            .filter(|r| r[5].split(' ').any(|c| c == call))
+        {
+            let words: f64 = r[2].parse().expect("a number");
+            constant += r[3].parse::<u64>().expect("a number");
+            match r[1].as_str() {
+                "P" => per[0] += words / 2.0,
+                "G" => per[1] += words,
+                "–" => {}
+                letter => per[2] += words / f64::from(shortest(letter)),
             }
-            for (i, exact) in per.iter().enumerate() {
-                let stated: f64 = row[i + 1].parse().expect("a number");
-                assert!(
-                    *exact <= stated && stated < exact + 0.1,
-                    "{call} {i}: {exact}"
-                );
-            }
-            assert_eq!(row[4].parse::<u64>().expect("a number"), constant, "{call}");
         }
+        for (i, exact) in per.iter().enumerate() {
+            let stated: f64 = row[i + 1].parse().expect("a number");
+            assert!(
+                *exact <= stated && stated < exact + 0.1,
+                "{call} {i}: {exact}"
+            );
+        }
+        assert_eq!(row[4].parse::<u64>().expect("a number"), constant, "{call}");
     }
 }
 

@@ -1,7 +1,8 @@
 //! The recorded vectors: the worked example is document 01's, judging finds a damaged
 //! record, and no damage to a pack makes the reader panic.
-use certpack::judge::judge;
+use certpack::judge::{Run, judge};
 use certpack::pack::decode;
+use certpack::shown::Budgets;
 use certpack::vectors::{Case, files, read};
 
 const FOLDER: &str = concat!(env!("CARGO_MANIFEST_DIR"), "/../../tests/vectors");
@@ -30,6 +31,28 @@ fn the_worked_example() {
     let pack = std::fs::read(format!("{EXAMPLE}/nat.pack")).expect("the pack");
     assert_eq!(nat.pack, pack);
     assert_eq!(nat.figures, [2, 2, 6, 4, 1, 1, 0, 1, 1, 2, 0, 0, 0]);
+}
+
+/// Of the general form and of the value so many nodes are shown.
+#[test]
+fn budgets_of_the_worked_example() {
+    let nat = case("nat");
+    let pack = decode(&nat.pack).expect("a pack");
+    let run = Run::read(&pack, &nat.class_words, &nat.pattern_words).expect("a run");
+    let shown = |form: u64, value: u64, most: usize| {
+        let budgets = Budgets { form, value };
+        run.shown(budgets, most).expect("goals with results")
+    };
+    for (form, text) in [(0, "…"), (1, "(pos …)"), (2, "(pos (s …))")] {
+        let wanted = format!("g {text}\n?v0 : Nat 1 …\n");
+        assert_eq!(shown(form, 0, 100), Some(wanted));
+    }
+    let whole = "g (pos (s ?v0))\n?v0 : Nat 1 (s z)\n".to_owned();
+    assert_eq!(shown(u64::MAX, 2, whole.len()), Some(whole.clone()));
+    assert_eq!(shown(3, u64::MAX, whole.len() - 1), None);
+    assert_eq!(nat.shown, whole);
+    let cut = whole.replace("(s z)", "(s …)");
+    assert_eq!(shown(3, 1, 100), Some(cut));
 }
 
 #[test]
