@@ -4,6 +4,7 @@
 //! Written from document 01 alone, so that it can judge the library from outside.
 pub mod cli;
 pub mod dump;
+pub mod emissions;
 pub mod file;
 pub mod judge;
 pub mod needed;

@@ -1,5 +1,6 @@
 //! certpack: the host tool that makes, shows and checks packs.
 use certpack::cli::{self, Fault};
+use certpack::emissions::emissions;
 use certpack::pack::{Pack, decode};
 use certpack::vectors::{self, Case};
 use certpack::{dump::dump, file, judge::judge, theorems::theorems, verdict::verdict};
@@ -16,6 +17,8 @@ certpack: packs of certificate records
   certpack judge FOLDER           judge the recorded vectors of a folder
   certpack theorems FOLDER N K    write every N-th recorded case, from the K-th on, as
                                   theorems of the definition
+  certpack emissions FOLDER MOST N K
+                                  the same of emission, for packs of at most MOST bytes
   certpack recorded FOLDER NAME   write what is recorded of one case: shown goals,
                                   proof lines, goal lines
   certpack --help                 this page
@@ -46,8 +49,12 @@ fn run(args: &[&str]) -> Result<String, Fault> {
         ["check", path] => check(path),
         ["judge", folder] => judge_all(folder),
         ["theorems", folder, n, k] => match (n.parse(), k.parse()) {
-            (Ok(n @ 1..), Ok(k)) => theorems_of(folder, n, k),
+            (Ok(n @ 1..), Ok(k)) => Ok(theorems(&every(&cases(folder)?, n, k))?),
             _ => cli::call("N and K are numbers, and N is not 0"),
+        },
+        ["emissions", folder, most, n, k] => match (most.parse(), n.parse(), k.parse()) {
+            (Ok(most), Ok(n @ 1..), Ok(k)) => Ok(emissions(&every(&cases(folder)?, n, k), most)?),
+            _ => cli::call("MOST, N and K are numbers, and N is not 0"),
         },
         ["recorded", folder, name] => recorded(folder, name),
         _ => Err(cli::unknown(args)),
@@ -85,13 +92,18 @@ fn check(path: &str) -> Result<String, Fault> {
     }
 }
 
-fn theorems_of(folder: &str, n: usize, k: usize) -> Result<String, Fault> {
+/// The recorded cases of a folder.
+fn cases(folder: &str) -> Result<Vec<Case>, Fault> {
     let mut cases = Vec::new();
     for path in vectors::files(folder)? {
         cases.extend(vectors::read(&path)?);
     }
-    let chosen: Vec<&Case> = cases.iter().skip(k).step_by(n).collect();
-    Ok(theorems(&chosen)?)
+    Ok(cases)
+}
+
+/// Every n-th, from the k-th on.
+fn every(cases: &[Case], n: usize, k: usize) -> Vec<&Case> {
+    cases.iter().skip(k).step_by(n).collect()
 }
 
 fn recorded(folder: &str, name: &str) -> Result<String, Fault> {

@@ -43,7 +43,7 @@ const FIGURES: [&str; 13] = [
     "hundreds",
 ];
 
-fn list<T: ToString>(xs: &[T]) -> String {
+pub(crate) fn list<T: ToString>(xs: &[T]) -> String {
     let words: Vec<String> = xs.iter().map(T::to_string).collect();
     format!(
         "{}[]",

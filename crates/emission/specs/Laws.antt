@@ -1,0 +1,4 @@
+-- What follows from the definition of emission.
+pub mod Text
+pub mod Written
+pub mod Goals
