@@ -70,7 +70,7 @@ pub record Emission : Type 0 where
 abbrev pub fresh : List Node → Emitter
 fresh s = record { undone = record { lines = []; proved = []; derived = []; defs = []; names = [] }; kept = record { store = s; pairs = 0 } }
 
--- "the eigenvariable": number 2^30−1
+-- L is pattern variable 2^30−1, as in the Rust
 abbrev pub eigenNumber : ℕ
 eigenNumber = 1073741823
 

@@ -15,7 +15,7 @@ use Rattle.emission.specs.Words.{judgment}
 use Rattle.emission.specs.Patterns.{constructorsOf, mentions, replace}
 use Rattle.emission.specs.Prove.{chain, prove}
 
--- "case variables", from 0: number 2^31−1 and on
+-- case variable k is pattern variable 2^31−1 + k, as in the Rust
 abbrev pub caseNumber : ℕ → ℕ
 caseNumber k = 2147483647 + k
 

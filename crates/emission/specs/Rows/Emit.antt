@@ -187,7 +187,7 @@ sorts-ahead-of-cut-holds : Claim sorts-ahead-of-cut
 unfolding seen said
 sorts-ahead-of-cut-holds = refl
 
--- a node met with another head binds nothing below it
+-- a node met with another head: the run goes on, where the Rust panics; nothing that could be bound lies below it here
 abbrev two-heads : Row
 two-heads = emitted twoHeads (bytes "(def ?d0 (s z))\n(step 0 free () (a ?d0 ?d0))\n(step 1 step (0) (c z))\n(result g 1)\n") (bytes "(var L Nat)\n(goal g (c z))\n") (0 ∷ 1 ∷ 2 ∷ 0 ∷ 1 ∷ [])
 
