@@ -2,6 +2,7 @@
 pub mod Test
 pub mod Little
 pub mod Decimal
+pub mod Ascii
 pub mod Pack
 pub mod Frame
 pub mod Theory

@@ -12,7 +12,7 @@ use Rattle.definition.specs.Figures.{figures}
 use Rattle.definition.specs.Frame.{fine, refuse}
 use Rattle.definition.specs.Answer.{answer, Lent, padded}
 use Rattle.definition.specs.Calls.{called, noFigures}
-use Rattle.definition.specs.Rows.Say.{bytes}
+use Rattle.definition.specs.Ascii.{bytes}
 use Rattle.definition.specs.declared.Refusal.{Refusal}
 use Rattle.definition.specs.declared.Answer.{Answer}
 use Rattle.definition.specs.declared.Figures.{Figures}

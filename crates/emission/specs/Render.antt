@@ -5,7 +5,7 @@ use lib.ListN.{getD}
 use Rattle.definition.specs.Decimal.{decimal}
 use Rattle.definition.specs.Pack.{Pack, symbolOf, ruleOf}
 use Rattle.definition.specs.Verdict.{noGoal}
-use Rattle.definition.specs.Rows.Say.{bytes}
+use Rattle.definition.specs.Ascii.{bytes}
 use Rattle.emission.specs.Text.{blanked, joined}
 use Rattle.emission.specs.Line.{Word, constant, defined, variable, Judgment, Case, Line, varLine, defLine, hypLine, stepLine, inductLine, resultLine, GoalLine, Tally, noLine, counting}
 use Rattle.emission.specs.Written.{written}

@@ -2,7 +2,8 @@
 use mathlib.Core.Path.{refl}
 use mathlib.Core.List.{List, [], _∷_, _++_}
 use Rattle.definition.specs.Pack.{prop}
-use Rattle.definition.specs.Rows.Say.{bytes, sort, symbol, rule, node, step, goal, result, cut, X}
+use Rattle.definition.specs.Ascii.{bytes}
+use Rattle.definition.specs.Rows.Say.{sort, symbol, rule, node, step, goal, result, cut, X}
 use Rattle.definition.specs.Rows.Packs.{natNodes, example, circling, clashing}
 use Rattle.definition.specs.Rows.Row.{Row, classes, shown, Claim, seen, Holds}
 

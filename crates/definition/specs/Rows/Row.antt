@@ -17,7 +17,8 @@ use Rattle.definition.specs.Classes.{mark}
 use Rattle.definition.specs.Figures.{slot, inSlot}
 use Rattle.definition.specs.Open.{at}
 use Rattle.definition.specs.Calls.{Left, certClasses, certShow}
-use Rattle.definition.specs.Rows.Say.{bytes, sort, symbol, rule, node, step, goal, result, cut, abstract, nested, times}
+use Rattle.definition.specs.Ascii.{bytes}
+use Rattle.definition.specs.Rows.Say.{sort, symbol, rule, node, step, goal, result, cut, abstract, nested, times}
 use Rattle.definition.specs.declared.Refusal.{Refusal}
 use Rattle.definition.specs.declared.Answer.{Answer}
 use Rattle.definition.specs.declared.Figures.{Figures}
@@ -49,7 +50,8 @@ refusal (refuse r) = some r
 abbrev numbers : Answer → List ℕ
 numbers a = a .code ∷ a .place ∷ []
 
-abbrev figureWords : Figures → List ℕ
+-- all thirteen figures
+abbrev pub figureWords : Figures → List ℕ
 figureWords f = f .steps ∷ f .classes ∷ f .«ground_nodes» ∷ f .«pattern_nodes» ∷ f .«class_vars» ∷ f .«flex_vars» ∷ f .«fixed_vars» ∷ f .«subst_entries» ∷ f .«subst_renamings» ∷ f .single ∷ f .few ∷ f .tens ∷ f .hundreds ∷ []
 
 -- a class of this count

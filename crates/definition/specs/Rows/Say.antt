@@ -2,16 +2,11 @@
 use mathlib.Core.Path.{_≡_, refl}
 use mathlib.Core.List.{List, [], _∷_, _++_}
 use Prim.Native.Nat.{ℕ, zero, suc, _-_}
-use Prim.Native.Char.{code}
-use Prim.Native.String.{String, [] as ε, _∷_ as _⊳_}
+use Prim.Native.String.{String}
 use lib.ListN.{length, replicate}
+use Rattle.definition.specs.Ascii.{bytes}
 use Rattle.definition.specs.Encode.{put, putWords, putRecord}
 use Rattle.definition.specs.Theory.{variable}
-
--- the bytes of a text of ASCII
-unfoldable pub bytes : String → List ℕ
-bytes ε = []
-bytes (c ⊳ s) = code c ∷ bytes s
 
 unfoldable pub sort : String → List ℕ
 unfolding putRecord bytes

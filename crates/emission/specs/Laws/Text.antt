@@ -5,7 +5,7 @@ use Prim.Native.Nat.{ℕ, _<_}
 use native.Mathlib.Omega.{arith}
 use lib.ListN.{length, length-append}
 use Rattle.definition.specs.Pack.{Pack}
-use Rattle.definition.specs.Rows.Say.{bytes}
+use Rattle.definition.specs.Ascii.{bytes}
 use Rattle.emission.specs.Line.{Line, varLine, defLine, hypLine, stepLine, inductLine, resultLine, GoalLine, Tally, noLine, counting, tallyFrom, tally}
 use Rattle.emission.specs.Render.{lineText, varText, textFrom, proofText, goalLineText, goalLinesText, goalText}
 

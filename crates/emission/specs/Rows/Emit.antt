@@ -2,10 +2,10 @@
 use mathlib.Core.Path.{refl}
 use mathlib.Core.List.{List, [], _∷_}
 use lib.ListN.{replicate}
-use Rattle.definition.specs.Rows.Say.{bytes}
+use Rattle.definition.specs.Ascii.{bytes}
 use Rattle.definition.specs.Rows.Packs.{example}
 use Rattle.emission.specs.Rows.Row.{Row, generated, emitted, emits, worked, left, cleared, ample, Claim, Holds, seen, said}
-use Rattle.emission.specs.Rows.Packs.{goalOnCut, twoHeads, failedCandidate, pinned, outputs, trees, twoSorts, twiceUnder, twoGoals}
+use Rattle.emission.specs.Rows.Packs.{goalOnCut, twoHeads, headsAbove, failedCandidate, pinned, outputs, trees, twoSorts, twiceUnder, twoGoals}
 
 -- the empty pack through certgen
 abbrev empty-generated : Row
@@ -195,6 +195,14 @@ two-heads-holds : Claim two-heads
 unfolding seen said
 two-heads-holds = refl
 
+-- "a node met with another head binds nothing below it": V stays unbound, so not even the ground attempt has its lines
+abbrev heads-above : Row
+heads-above = emits headsAbove ample 11 0
+
+heads-above-holds : Claim heads-above
+unfolding seen said
+heads-above-holds = refl
+
 -- lines of the failed candidate stay: steps 0 and 1
 abbrev failed-candidate : Row
 failed-candidate = emitted failedCandidate (bytes "(step 0 snd () (snd z z z))\n(var L0 Nat)\n(hyp 1 (snd L0 z L0))\n(step 2 snd () (snd L z z))\n(step 3 nz () (nat z))\n(var L1 Nat)\n(hyp 4 (nat L1))\n(def ?d0 (s L1))\n(step 5 ns (4) (nat ?d0))\n(induct 6 L (nat L) ((3) (5 L1)))\n(step 7 q (6 2) (q L))\n(result g 7)\n") (bytes "(var L Nat)\n(goal g (q L))\n") (1 ∷ 0 ∷ 8 ∷ 1 ∷ 1 ∷ [])
@@ -260,7 +268,7 @@ unfolding seen said
 results-last-holds = refl
 
 abbrev pub rows : List Row
-rows = empty-generated ∷ example-generated ∷ long-generated ∷ cut-generated ∷ empty-left ∷ example-left ∷ class-short ∷ pattern-short ∷ graph-short ∷ work-short ∷ proof-short ∷ goals-short ∷ over-a-limit ∷ goal-line-ahead ∷ step-line-ahead ∷ L-ahead ∷ var-line-ahead ∷ refused-cleared ∷ refused-early-cleared ∷ goal-on-cut ∷ cut-ahead-of-writes ∷ sorts-ahead-of-cut ∷ two-heads ∷ failed-candidate ∷ pinned-ground ∷ undone-enough ∷ undone-short ∷ output-chosen ∷ three-cases ∷ proved-again ∷ results-last ∷ []
+rows = empty-generated ∷ example-generated ∷ long-generated ∷ cut-generated ∷ empty-left ∷ example-left ∷ class-short ∷ pattern-short ∷ graph-short ∷ work-short ∷ proof-short ∷ goals-short ∷ over-a-limit ∷ goal-line-ahead ∷ step-line-ahead ∷ L-ahead ∷ var-line-ahead ∷ refused-cleared ∷ refused-early-cleared ∷ goal-on-cut ∷ cut-ahead-of-writes ∷ sorts-ahead-of-cut ∷ two-heads ∷ heads-above ∷ failed-candidate ∷ pinned-ground ∷ undone-enough ∷ undone-short ∷ output-chosen ∷ three-cases ∷ proved-again ∷ results-last ∷ []
 
 pub hold : Holds rows
-hold = (empty-generated-holds, (example-generated-holds, (long-generated-holds, (cut-generated-holds, (empty-left-holds, (example-left-holds, (class-short-holds, (pattern-short-holds, (graph-short-holds, (work-short-holds, (proof-short-holds, (goals-short-holds, (over-a-limit-holds, (goal-line-ahead-holds, (step-line-ahead-holds, (L-ahead-holds, (var-line-ahead-holds, (refused-cleared-holds, (refused-early-cleared-holds, (goal-on-cut-holds, (cut-ahead-of-writes-holds, (sorts-ahead-of-cut-holds, (two-heads-holds, (failed-candidate-holds, (pinned-ground-holds, (undone-enough-holds, (undone-short-holds, (output-chosen-holds, (three-cases-holds, (proved-again-holds, (results-last-holds, tt)))))))))))))))))))))))))))))))
+hold = (empty-generated-holds, (example-generated-holds, (long-generated-holds, (cut-generated-holds, (empty-left-holds, (example-left-holds, (class-short-holds, (pattern-short-holds, (graph-short-holds, (work-short-holds, (proof-short-holds, (goals-short-holds, (over-a-limit-holds, (goal-line-ahead-holds, (step-line-ahead-holds, (L-ahead-holds, (var-line-ahead-holds, (refused-cleared-holds, (refused-early-cleared-holds, (goal-on-cut-holds, (cut-ahead-of-writes-holds, (sorts-ahead-of-cut-holds, (two-heads-holds, (heads-above-holds, (failed-candidate-holds, (pinned-ground-holds, (undone-enough-holds, (undone-short-holds, (output-chosen-holds, (three-cases-holds, (proved-again-holds, (results-last-holds, tt))))))))))))))))))))))))))))))))

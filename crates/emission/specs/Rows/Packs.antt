@@ -13,6 +13,10 @@ goalOnCut = natNodes ++ step (0 ∷ 3 ∷ []) ++ step (1 ∷ 4 ∷ 0 ∷ []) ++ 
 abbrev pub twoHeads : List ℕ
 twoHeads = sort "Nat" ++ symbol 0 [] "z" ++ symbol 0 (0 ∷ []) "s" ++ symbol prop (0 ∷ 0 ∷ []) "a" ++ symbol prop (0 ∷ []) "c" ++ rule (0 ∷ 0 ∷ []) 0 (2 ∷ X ∷ (X + 1) ∷ []) "free" ++ rule (0 ∷ 0 ∷ []) 1 (2 ∷ 1 ∷ X ∷ (X + 1) ∷ 3 ∷ X ∷ []) "step" ++ node (0 ∷ []) ++ node (3 ∷ 0 ∷ []) ++ node (1 ∷ 0 ∷ []) ++ node (2 ∷ 2 ∷ 0 ∷ []) ++ step (0 ∷ 3 ∷ []) ++ step (1 ∷ 1 ∷ 0 ∷ []) ++ goal 1 "g" ++ result 1 "g" ++ cut (2 ∷ 1 ∷ [])
 
+-- step 1 should conclude p(s z): X is t of V by step 2, beside s z at step 0 and beside t z at step 1
+abbrev pub headsAbove : List ℕ
+headsAbove = sort "Nat" ++ symbol 0 [] "z" ++ symbol 0 (0 ∷ []) "s" ++ symbol 0 (0 ∷ []) "t" ++ symbol prop (0 ∷ []) "m" ++ symbol prop (0 ∷ []) "p" ++ symbol prop [] "q" ++ rule (0 ∷ []) 0 (3 ∷ X ∷ []) "m" ++ rule (0 ∷ []) 1 (3 ∷ X ∷ 4 ∷ X ∷ []) "p" ++ rule (0 ∷ []) 1 (4 ∷ 2 ∷ X ∷ 5 ∷ []) "q" ++ node (0 ∷ []) ++ node (1 ∷ 0 ∷ []) ++ node (2 ∷ 0 ∷ []) ++ node (3 ∷ 1 ∷ []) ++ node (4 ∷ 2 ∷ []) ++ node (5 ∷ []) ++ step (0 ∷ 3 ∷ []) ++ step (1 ∷ 4 ∷ 0 ∷ []) ++ step (2 ∷ 5 ∷ 1 ∷ []) ++ goal 5 "g" ++ result 2 "g"
+
 -- the first candidate, L, fails in its second case; z then proves
 abbrev pub failedCandidate : List ℕ
 failedCandidate = sort "Nat" ++ symbol 0 [] "z" ++ symbol 0 (0 ∷ []) "s" ++ symbol prop (0 ∷ []) "nat" ++ symbol prop (0 ∷ 0 ∷ 0 ∷ []) "snd" ++ symbol prop (0 ∷ []) "q" ++ rule [] 0 (2 ∷ 0 ∷ []) "nz" ++ rule (0 ∷ []) 1 (2 ∷ X ∷ 2 ∷ 1 ∷ X ∷ []) "ns" ++ rule (0 ∷ 0 ∷ []) 0 (3 ∷ X ∷ (X + 1) ∷ (X + 1) ∷ []) "snd" ++ rule (0 ∷ 0 ∷ []) 2 (2 ∷ X ∷ 3 ∷ X ∷ 0 ∷ (X + 1) ∷ 4 ∷ X ∷ []) "q" ++ node (0 ∷ []) ++ node (1 ∷ 0 ∷ []) ++ node (4 ∷ 1 ∷ []) ++ node (2 ∷ 0 ∷ []) ++ node (2 ∷ 1 ∷ []) ++ node (3 ∷ 1 ∷ 0 ∷ 0 ∷ []) ++ step (0 ∷ 3 ∷ []) ++ step (1 ∷ 4 ∷ 0 ∷ []) ++ step (2 ∷ 5 ∷ []) ++ step (3 ∷ 2 ∷ 1 ∷ 2 ∷ []) ++ goal 2 "g" ++ result 3 "g" ++ cut (2 ∷ []) ++ cut (3 ∷ 2 ∷ [])

@@ -11,8 +11,9 @@ use Rattle.definition.specs.Run.{_>>=_ as _>>=r_}
 use Rattle.definition.specs.Parse.{kinds, takeRecord}
 use Rattle.definition.specs.Answer.{Lent, leastWork}
 use Rattle.definition.specs.Calls.{noFigures}
-use Rattle.definition.specs.Rows.Say.{bytes, sort, symbol, rule, node, step, goal, result, cut}
-use Rattle.definition.specs.declared.Figures.{Figures}
+use Rattle.definition.specs.Ascii.{bytes}
+use Rattle.definition.specs.Rows.Say.{sort, symbol, rule, node, step, goal, result, cut}
+use Rattle.definition.specs.Rows.Row.{figureWords}
 use Rattle.emission.specs.State.{_>>=_, _orElse_}
 use Rattle.emission.specs.Calls.{EmitLeft, emitLent, certEmit, certgen}
 
@@ -57,9 +58,6 @@ texts l = l .proofLength ∷ l .goalsLength ∷ []
 
 abbrev counts : EmitLeft → List ℕ
 counts l = let n = l .emitted in n .«open_goals» ∷ n .«rigid_goals» ∷ n .steps ∷ n .inductions ∷ n .definitions ∷ []
-
-abbrev figureWords : Figures → List ℕ
-figureWords f = f .steps ∷ f .classes ∷ f .«ground_nodes» ∷ f .«pattern_nodes» ∷ f .«class_vars» ∷ f .«flex_vars» ∷ f .«fixed_vars» ∷ f .«subst_entries» ∷ f .«subst_renamings» ∷ f .single ∷ f .few ∷ f .tens ∷ f .hundreds ∷ []
 
 -- whether all are zero, and how many there are
 unfoldable pub zeros : List ℕ → List ℕ
