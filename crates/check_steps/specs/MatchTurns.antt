@@ -14,7 +14,7 @@ use Rattle.definition.specs.Certificate.{count}
 use Rattle.definition.specs.Theory.{variable}
 use Rattle.definition.specs.Verdict.{Bound, valueOf, bound, provided, onwards, matched, passes}
 use Rattle.definition.specs.Good.{Below}
-use Rattle.definition.specs.Laws.Grow.{below-more}
+use Rattle.definition.specs.Laws.Grow.{below-more, below-both}
 use Rattle.definition.specs.Laws.Agreement.{judged, judged-below}
 use Rattle.definition.specs.Laws.Prefix.{termsWords}
 use Rattle.definition.specs.Laws.Suffix.{judgments-sorted}
@@ -30,11 +30,6 @@ use Rattle.check_steps.specs.Words.{matchWords, node-many, node-below, a
 use Rattle.check_steps.specs.Pending.{Pending, rule-pending, pending-most, pending-none, word-there, next-variable, next-symbol}
 use Rattle.check_steps.specs.Values.{valueIn, Binds}
 use Rattle.check_steps.specs.Matching.{Matching, Ready, rest}
-
--- numbers below a bound, then others
-below-both : (n : ℕ) (xs ys : List ℕ) → Below n xs → Below n ys → Below n (xs ++ ys)
-below-both n [] ys b d = d
-below-both n (x ∷ xs) ys b d = (b .0, below-both n xs ys (b .1) d)
 
 -- the state behind word i
 abbrev pub Goes : Pack → ℕ → List ℕ → List ℕ → List ℕ → Stack → Stack → ℕ → List Bound → Type 0

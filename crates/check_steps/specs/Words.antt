@@ -17,7 +17,7 @@ use Rattle.definition.specs.Laws.Prefix.{termWords, termsWords}
 use Rattle.definition.specs.Laws.Suffix.{judgments-sorted}
 use Rattle.definition.specs.Laws.Tree.{args-below}
 use Rattle.definition.specs.Laws.Grow.{below-more}
-use Rattle.definition.specs.Laws.Agreement.{judged, judged-below}
+use Rattle.definition.specs.Laws.Agreement.{judged, judged-below, onwards-same}
 use Rattle.pack_read.specs.Reads.{ruleWords}
 
 -- each word takes its node off the stack; a symbol puts the node's arguments on it
@@ -31,12 +31,6 @@ matchWords P (w ∷ ws) (n ∷ ns) bs =
       | true ↦ onwards (bound (w - variable) n bs (valueOf (w - variable) bs)) (λ cs. matchWords P ws ns cs)
       | false ↦ provided (eqb (nodeOf P n .head) w) (matchWords P ws (nodeOf P n .args ++ ns) bs)
     ]
-
--- two ways to go on that are the same
-onwards-same : (m : Option (List Bound)) (f g : List Bound → Option (List Bound)) → ((bs : List Bound) → f bs ≡ g bs) → onwards m f ≡ onwards m g
-unfolding onwards
-onwards-same none f g h = refl
-onwards-same (some bs) f g h = h bs
 
 -- to go on twice
 onwards-twice : (m : Option (List Bound)) (f g : List Bound → Option (List Bound)) → onwards m (λ bs. onwards (f bs) g) ≡ onwards (onwards m f) g

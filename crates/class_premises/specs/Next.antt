@@ -11,7 +11,7 @@ use lib.Seq.{drop-cons, getD-take}
 use Rattle.definition.specs.Pack.{Term, Terms, nil, cons, Node, Pack, ruleOf, stepOf}
 use Rattle.definition.specs.Certificate.{count}
 use Rattle.definition.specs.Good.{Below, SortedAll}
-use Rattle.definition.specs.Laws.Grow.{below-more, below-at}
+use Rattle.definition.specs.Laws.Grow.{below-more, below-at, below-both}
 use Rattle.definition.specs.Frame.{refuse}
 use Rattle.definition.specs.Answer.{Lent}
 use Rattle.definition.specs.Run.{outcome}
@@ -209,10 +209,6 @@ module _ (P : Pack) (r vars from : ℕ) (t : Term) (ts : Terms) (S : Spelt P r v
 below-one : (n : ℕ) (xs : List ℕ) (x : ℕ) → Below n xs → x < n → Below n (xs ++ (x ∷ []))
 below-one n [] x b h = (h, tt)
 below-one n (y ∷ xs) x b h = (b .0, below-one n xs x (b .1) h)
-
-below-both : (n : ℕ) (xs ys : List ℕ) → Below n xs → Below n ys → Below n (xs ++ ys)
-below-both n [] ys a b = b
-below-both n (x ∷ xs) ys a b = (a .0, below-both n xs ys (a .1) b)
 
 -- ---- the next premise
 module _ (bytes work class words cells : List ℕ) (c : Catalog) (k : Keying) (l : Layout) (r : KeyCounts) (st : Store) (memo : Memo) (fill : ℕ) (g : Counts) (env : List ℕ) (u : Ruling) (i from copies : ℕ)

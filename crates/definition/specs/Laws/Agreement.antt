@@ -28,6 +28,12 @@ unfolding onwards
 onwards-some none f cs e = never (cc)
 onwards-some (some bs) f cs e = (bs, refl, e)
 
+-- two ways to go on that are the same
+pub onwards-same : (m : Option (List Bound)) (f g : List Bound → Option (List Bound)) → ((bs : List Bound) → f bs ≡ g bs) → onwards m f ≡ onwards m g
+unfolding onwards
+onwards-same none f g h = refl
+onwards-same (some bs) f g h = h bs
+
 some-number : {a b : ℕ} → some a ≡ some b → a ≡ b
 some-number e = cc
 

@@ -17,6 +17,10 @@ below-more n m [] h b = tt
 below-more n m (x ∷ xs) h b = (omega (arith, b .0), below-more n m xs h (b .1))
 
 -- an element of numbers below n
+pub below-both : (n : ℕ) (xs ys : List ℕ) → Below n xs → Below n ys → Below n (xs ++ ys)
+below-both n [] ys a b = b
+below-both n (x ∷ xs) ys a b = (a .0, below-both n xs ys (a .1) b)
+
 pub below-at : (n : ℕ) (xs : List ℕ) (i : ℕ) → Below n xs → i < length xs → getD xs i 0 < n
 below-at n [] i b l = absurd (omega arith)
 below-at n (x ∷ xs) zero b l = b .0

@@ -46,7 +46,7 @@ pub env-same : (P : Pack) (vars env : List ℕ) (g : Graph) → Environment P va
 env-same P vars env g E θ ϕ a k h = a (getD env k 0) (below-at (length g) env k (E .below) (omega (arith, E .enough)))
 
 -- an environment in a graph with the same nodes
-env-joined : (P : Pack) (vars env : List ℕ) (g h : Graph) → SameNodes g h → Environment P vars env g → Environment P vars env h
+pub env-joined : (P : Pack) (vars env : List ℕ) (g h : Graph) → SameNodes g h → Environment P vars env g → Environment P vars env h
 env-joined P vars env g h S E = record {
   below = subst (λ (n : ℕ). Below n env) (sym (S .long)) (E .below);
   enough = E .enough;

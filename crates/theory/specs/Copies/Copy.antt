@@ -33,7 +33,7 @@ copies-turn s θ ν bs [] h = refl
 copies-turn s θ ν bs (a ∷ args) h = ap₂ tree-then (h a (in-here a args)) (copies-turn s θ ν bs args (λ b k. h b (in-there b a args k)))
 
 -- what the nodes that were copied stand for
-made-all : (c : Copy) (xs : List ℕ) → Known isCopied c xs → (a : ℕ) → In a xs → Made (c .nodes) a
+pub made-all : (c : Copy) (xs : List ℕ) → Known isCopied c xs → (a : ℕ) → In a xs → Made (c .nodes) a
 unfolding isCopied
 made-all c [] k a i = absurd (in-none a i)
 made-all c (x ∷ xs) k a i = elim (in-front a x xs i) [

@@ -15,6 +15,7 @@ use Rattle.definition.specs.Laws.Tree.{args-below}
 use Rattle.definition.specs.Verdict.{Bound, valueOf, provided, onwards}
 use Rattle.definition.specs.Graph.{Graph, vertex, root, isVar}
 use Rattle.definition.specs.Analysis.{pairing, valueAt, valued}
+use Rattle.definition.specs.Laws.Agreement.{onwards-same}
 
 -- ---- values and then more values
 -- going on with nothing changes nothing
@@ -28,12 +29,6 @@ onwards-then : (o : Option (List Bound)) (f k : List Bound → Option (List Boun
 unfolding onwards
 onwards-then none f k = refl
 onwards-then (some ws) f k = refl
-
--- the same from the same values on
-onwards-same : (o : Option (List Bound)) (f k : List Bound → Option (List Bound)) → ((ws : List Bound) → f ws ≡ k ws) → onwards o f ≡ onwards o k
-unfolding onwards
-onwards-same none f k h = refl
-onwards-same (some ws) f k h = h ws
 
 module _ (d : ℕ) (P : Pack) (g : Graph) where
   -- nothing asked
@@ -82,7 +77,7 @@ grounded-value P (b ∷ vs) k n h e = elim (see (eqb (b .variable) k)) [
 ]
 
 -- what a test lets through
-provided-parts : (t : Bool) (o : Option (List Bound)) (ws : List Bound) → provided t o ≡ some ws → (t ≡ true) × (o ≡ some ws)
+pub provided-parts : (t : Bool) (o : Option (List Bound)) (ws : List Bound) → provided t o ≡ some ws → (t ≡ true) × (o ≡ some ws)
 unfolding provided
 provided-parts true o ws e = (refl, e)
 provided-parts false o ws e = never (cc)

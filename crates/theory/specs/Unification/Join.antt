@@ -13,12 +13,12 @@ use Rattle.definition.specs.Graph.{Vertex, Graph, applied, vertex, isVar, linkT
 use Rattle.theory.specs.Unification.Solve.{SameNodes, openCells}
 
 -- a node put in place of another
-vertex-same : (g : Graph) (x : ℕ) (v : Vertex) → x < length g → vertex (set g x v) x ≡ v
+pub vertex-same : (g : Graph) (x : ℕ) (v : Vertex) → x < length g → vertex (set g x v) x ≡ v
 unfolding vertex
 vertex-same g x v h = getD-set-same g x v (applied 0 []) h
 
 -- the other nodes stay
-vertex-other : (g : Graph) (x : ℕ) (v : Vertex) (z : ℕ) → (z ≡ x → ⊥) → vertex (set g x v) z ≡ vertex g z
+pub vertex-other : (g : Graph) (x : ℕ) (v : Vertex) (z : ℕ) → (z ≡ x → ⊥) → vertex (set g x v) z ≡ vertex g z
 unfolding vertex
 vertex-other g x v z n = getD-set-other g x z v (applied 0 []) n
 

@@ -14,6 +14,7 @@ use Rattle.definition.specs.Verdict.{Bound, valueOf, provided, onwards}
 use Rattle.definition.specs.Good.{Below}
 use Rattle.definition.specs.Graph.{Graph, vertex, root, isVar, Pair}
 use Rattle.definition.specs.Analysis.{pairing, valueAt, valued}
+use Rattle.definition.specs.Laws.Agreement.{onwards-same}
 use Rattle.theory.specs.Walks.Walk.{Under}
 use Rattle.theory.specs.Walks.Levels.{argRoots, args-under}
 
@@ -91,12 +92,6 @@ ahead-all xs ns k w h m = ap₂ (λ (a b : List ℕ). ahead a b w) (take-all k x
 pub ahead-none : (xs ns : List ℕ) (w : List Pair) → ahead (take 0 xs) (take 0 ns) w ≡ some w
 unfolding ahead
 ahead-none xs ns w = refl
-
--- what comes after values, alike where the values and what comes after them are
-onwards-same : (o : Option (List Bound)) (f h : List Bound → Option (List Bound)) → ((vs : List Bound) → f vs ≡ h vs) → onwards o f ≡ onwards o h
-unfolding onwards
-onwards-same none f h e = refl
-onwards-same (some vs) f h e = e vs
 
 module _ (P : Pack) (g : Graph) where
   -- what `valued` gives for pairs put ahead of others: none where one side is longer, else their values and then the others'
