@@ -12,10 +12,10 @@ use Rattle.definition.specs.Pack.{prop, Term, Terms, var, app, nil, cons, Rule,
 use Rattle.definition.specs.Theory.{variable}
 use Rattle.definition.specs.Certificate.{count}
 use Rattle.definition.specs.Verdict.{Bound, valueOf, bound, provided, onwards, matches, matchAll, matched, passes}
-use Rattle.definition.specs.Good.{Below, Sorted, SortedAll, Arguments, Good, Few}
+use Rattle.definition.specs.Good.{Below, Sorted, SortedAll, Good, Few}
 use Rattle.definition.specs.Laws.Prefix.{termWords, termsWords}
 use Rattle.definition.specs.Laws.Suffix.{judgments-sorted}
-use Rattle.definition.specs.Laws.Tree.{args-below}
+use Rattle.definition.specs.Laws.Tree.{args-below, arguments-many}
 use Rattle.definition.specs.Laws.Grow.{below-more}
 use Rattle.definition.specs.Laws.Agreement.{judged, judged-below, onwards-same}
 use Rattle.pack_read.specs.Reads.{ruleWords}
@@ -49,13 +49,6 @@ provided-onwards : (t : Bool) (r m : Option (List Bound)) (g : List Bound → Op
 unfolding provided onwards
 provided-onwards true r m g h = h refl
 provided-onwards false r m g h = refl
-
--- arguments are as many as the sorts that are asked for
-arguments-many : (P : Pack) (i : ℕ) (ss args : List ℕ) → Arguments P i ss args → length args ≡ length ss
-arguments-many P i [] [] a = refl
-arguments-many P i [] (x ∷ args) a = absurd a
-arguments-many P i (s ∷ ss) [] a = absurd a
-arguments-many P i (s ∷ ss) (x ∷ args) a = ap suc (arguments-many P i ss args (a .2))
 
 module _ (P : Pack) (G : Good P) (F : Few P) (vars : List ℕ) where
   -- a symbol's number is no variable's word

@@ -12,6 +12,7 @@ use Rattle.definition.specs.Frame.{fine, refuse}
 use Rattle.definition.specs.Answer.{Lent}
 use Rattle.definition.specs.Run.{Run, outcome}
 use Rattle.definition.specs.declared.Refusal.{Refusal as Reason}
+use Rattle.definition.specs.Store.{nothing}
 use Rattle.theory.specs.Patterns.Interned.{Grows}
 use Rattle.base.specs.Outside.{Outside, outside-none, outside-then, outside-wider}
 use Rattle.store.specs.Stored.{nodes, written}
@@ -50,7 +51,7 @@ pub record Beginning (bytes work class words cells : List ℕ) (c : Catalog) (k 
   pub pack : Pack
   pub built : Built
   pub begins : Begins bytes work class words cells c k l counts st memo count fill pack built
-  pub small-cells : length cells < 4294967295
+  pub small-cells : length cells < nothing
   pub small : length class < 4294967296
 
 -- the definition's run, and what is left of it behind i classes

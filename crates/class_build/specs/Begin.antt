@@ -16,11 +16,12 @@ use Rattle.term_lift.specs.Lifts.{Lifts, Clears}
 use Rattle.class_premises.specs.Layout.{indexIn}
 use Rattle.class_premises.specs.declared.layout.Layout.{Layout}
 use Rattle.class_premises.specs.Standing.{liftedOf}
+use Rattle.definition.specs.Store.{nothing}
 
 -- ---- the store
 -- there is an index for the words, behind lifting's
 pub record Indexable (work words : List ℕ) (l : Layout) : Type 0 where
-  pub small : length words < 4294967295
+  pub small : length words < nothing
   pub index : l .lifted + 3 * l .nodes + (4 * (length words / 2) + 1) ≤ l .copied
   pub inside : l .copied ≤ length work
 

@@ -7,7 +7,7 @@ use Rattle.definition.specs.Pack.{Pack}
 use Rattle.definition.specs.Frame.{fine, refuse}
 use Rattle.definition.specs.Answer.{Lent}
 use Rattle.definition.specs.Run.{Run, outcome}
-use Rattle.definition.specs.Store.{patternWords}
+use Rattle.definition.specs.Store.{patternWords, nothing}
 use Rattle.definition.specs.Keys.{keyed as keysOf}
 use Rattle.definition.specs.Classes.{Built, makeClasses, buildClasses, classWords}
 use Rattle.definition.specs.Figures.{figures}
@@ -76,7 +76,7 @@ pub record Beginning (bytes work class words cells : List ℕ) (c : Catalog) (k 
   pub begun : Begun bytes work class words cells c k l r st memo fill pack
   pub room : l .copied + (4 * length words + 2 * (length cells + 16) + 2 * l .nodes) ≤ length work
   pub small-class : length class < 4294967296
-  pub small-cells : length cells < 4294967295
+  pub small-cells : length cells < nothing
 
 -- the definition's run behind the steps' words
 abbrev pub restRun : Pack → Run Built

@@ -8,6 +8,7 @@ use Rattle.definition.specs.Pack.{Pack}
 use Rattle.definition.specs.Answer.{Lent}
 use Rattle.definition.specs.declared.Refusal.{Refusal}
 use Rattle.definition.specs.declared.Refusal.the-variants as refusals
+use Rattle.definition.specs.Store.{nothing}
 use Rattle.memo.specs.declared.memo.Memo.{Memo}
 use Rattle.store.specs.declared.nodes.Store.{Store}
 use Rattle.pack_tables.specs.Catalog.{recordsOf, Fits}
@@ -99,7 +100,7 @@ module _ (bytes work class words cells : List ℕ) (c : Catalog) where
           let e : length (P .steps) ≡ fill = length-steps bytes (recordsOf work₁ c) P (A .standing .reads) ∙ sym filled in
           record { standing = subst (λ (n : ℕ). Standing bytes work₁ class₁ words cells c k l r st memo n P (unbuilt P)) e (A .standing) }
 
-      pub classes-begin : Opened bytes work words cells c → length class < 4294967296 → length cells < 4294967295 → Beginning bytes work₁ class₁ words cells c k l r st memo fill
+      pub classes-begin : Opened bytes work words cells c → length class < 4294967296 → length cells < nothing → Beginning bytes work₁ class₁ words cells c k l r st memo fill
       classes-begin O small-class small-cells =
           let H = O .held in
           let A = S .0 (H .pack) (H .reads) (H .proper) in

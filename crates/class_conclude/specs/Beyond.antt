@@ -11,9 +11,10 @@ use lib.ListN.{length}
 use Rattle.definition.specs.Test.{is, see, never}
 use Rattle.definition.specs.Pack.{Pack, nodeOf}
 use Rattle.definition.specs.Good.{Below}
-use Rattle.definition.specs.Verdict.{Bound, valueOf, provided, onwards}
+use Rattle.definition.specs.Verdict.{Bound, valueOf, provided}
 use Rattle.definition.specs.Graph.{Graph, vertex, root, isVar}
 use Rattle.definition.specs.Analysis.{pairing, valueAt, valued}
+use Rattle.definition.specs.Laws.Agreement.{onwards-some}
 use Rattle.theory.specs.Unification.Forest.{Forest, root-inside}
 use Rattle.theory.specs.Unification.Inner.{Inner}
 
@@ -36,12 +37,6 @@ let-through : (t : Bool) (o : Option (List Bound)) (ws : List Bound) → provide
 unfolding provided
 let-through true o ws e = e
 let-through false o ws e = never (cc)
-
--- what was gone on with
-gone-on : (o : Option (List Bound)) (f : List Bound → Option (List Bound)) (ws : List Bound) → onwards o f ≡ some ws → (us : List Bound) × (o ≡ some us) × (f us ≡ some ws)
-unfolding onwards
-gone-on none f ws e = never (cc)
-gone-on (some us) f ws e = (us, refl, e)
 
 -- there is one such list
 some-eq : {us ws : List Bound} → some us ≡ some ws → us ≡ ws
@@ -73,7 +68,7 @@ module _ (P : Pack) (g : Graph) (F : Forest g) (I : Inner g) where
   valued-within (suc d) [] (n ∷ ns) vs ws b h e = never (cc)
   valued-within (suc d) (x ∷ xs) [] vs ws b h e = never (cc)
   valued-within (suc d) (x ∷ xs) (n ∷ ns) vs ws b h e =
-      let q = gone-on (valueAt P g (λ ys ms us. valued d P g ys ms us) (root g x) n vs) (λ us. valued (suc d) P g xs ns us) ws e in
+      let q = onwards-some (valueAt P g (λ ys ms us. valued d P g ys ms us) (root g x) n vs) (λ us. valued (suc d) P g xs ns us) ws e in
       let i = root-within (λ ys ms us. valued d P g ys ms us) (λ ys ms us zs c k f. valued-within d ys ms us zs c k f) (root g x) n vs (q .0) (root-inside g F x (b .0)) h (q .1) in
       valued-within (suc d) xs ns (q .0) ws (b .1) i (q .2)
 

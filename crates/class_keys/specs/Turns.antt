@@ -11,6 +11,7 @@ use Rattle.definition.specs.Pack.{Pack}
 use Rattle.definition.specs.Graph.{upTo}
 use Rattle.definition.specs.Classes.{countOf}
 use Rattle.definition.specs.Keys.{needed}
+use Rattle.definition.specs.Store.{nothing}
 use Rattle.base.specs.Hash.{hashOf}
 use Rattle.base.specs.Part.{put, part-is}
 use Rattle.buffer.specs.Zero.{zeros-long, zeros-there, zeros-before, zeros-behind}
@@ -114,9 +115,9 @@ module _ (bytes work class : List ℕ) (c : Catalog) (k : Keying) (s : ℕ) (don
         }
 
     -- a step that is not marked
-    pub turn-out : getD class s 0 ≡ 0 → Turns bytes work class work (set class s 4294967295) c k s done
+    pub turn-out : getD class s 0 ≡ 0 → Turns bytes work class work (set class s nothing) c k s done
     turn-out z =
-        turned work 4294967295 done (outside-none (k .at) (endOf k) work) (omega (arith, St .few))
+        turned work nothing done (outside-none (k .at) (endOf k) work) (omega (arith, St .few))
         (λ P R Q.
         let S = St .stands P R Q in
         stands-out P Q work class k n s done (fits P R) S (St .left) (St .few) more (bit-no (any (eqb s) (needed P)) (sym (S .marks s (omega arith) more) ∙ z)))
@@ -133,7 +134,7 @@ module _ (bytes work class : List ℕ) (c : Catalog) (k : Keying) (s : ℕ) (don
         old-few = omega (arith, f .0, St .few, St .left)
 
         -- its count has a word, and may grow
-        pub old-room : (k .at + 2 * k .cap + i < length work) × (countIn work k i < 4294967295)
+        pub old-room : (k .at + 2 * k .cap + i < length work) × (countIn work k i < nothing)
         old-room =
             let H = St .keyable .held in
             let l = count-small (H .pack) (H .proper) work class k n s done (fits (H .pack) (H .reads)) (St .stands (H .pack) (H .reads) (H .proper)) (St .left) (St .few) i (f .0) in
@@ -148,7 +149,7 @@ module _ (bytes work class : List ℕ) (c : Catalog) (k : Keying) (s : ℕ) (don
       -- no class has its key
       module _ (t : ℕ) (f : Sought bytes work class c k (done .classes) s (Free t)) where
         -- the new class has its words, and a slot
-        pub new-room : (done .classes ≤ k .cap) × (slotsAt k + t < length work) × (done .classes < 4294967295) × (s < 4294967296)
+        pub new-room : (done .classes ≤ k .cap) × (slotsAt k + t < length work) × (done .classes < nothing) × (s < 4294967296)
         new-room = (omega (arith, St .few, St .left, St .keyable .steps), omega (arith, f .0, St .keyable .room, St .keyable .steps), omega (arith, small .0, St .few, St .left), omega (arith, small .0, St .left))
 
         -- the step begins it

@@ -55,7 +55,7 @@ pub fn write_key(
     if step_is_cut(pack, work, c, s) {
         key[0] = 0;
         key[1] = step_predicate(pack, work, c, s);
-        return 2;
+        return Keying::REFS;
     }
     write_rule_key(pack, work, class, c, at, s, key)
 }

@@ -2,7 +2,7 @@
 use mathlib.Core.Path.{_≡_, refl, sym, ap, ap₂, _∙_, subst}
 use mathlib.Core.Logic.{inl, inr}
 use mathlib.Core.Bool.{Bool}
-use mathlib.Core.List.{List, [], _∷_, _++_, map}
+use mathlib.Core.List.{List, [], _∷_, _++_}
 use mathlib.Core.Option.{some}
 use Prim.Native.Nat.{ℕ, zero, suc, _+_, _*_, _≤_, _<_}
 use native.Mathlib.Omega.{arith}
@@ -11,7 +11,7 @@ use lib.Seq.{drop-cons, getD-take}
 use Rattle.definition.specs.Pack.{Term, Terms, nil, cons, Node, Pack, ruleOf, stepOf}
 use Rattle.definition.specs.Certificate.{count}
 use Rattle.definition.specs.Good.{Below, SortedAll}
-use Rattle.definition.specs.Laws.Grow.{below-more, below-at, below-both}
+use Rattle.definition.specs.Laws.Grow.{below-more, below-at, below-both, map-at, getD-behind}
 use Rattle.definition.specs.Frame.{refuse}
 use Rattle.definition.specs.Answer.{Lent}
 use Rattle.definition.specs.Run.{outcome}
@@ -154,11 +154,6 @@ made-at words b [] M i h = absurd (omega arith)
 made-at words b (r ∷ rs) M zero h = M .0
 made-at words b (r ∷ rs) M (suc i) h = made-at words b rs (M .1) i (omega arith)
 
-map-at : (f : ℕ → ℕ) (xs : List ℕ) (i : ℕ) → i < length xs → getD (map f xs) i 0 ≡ f (getD xs i 0)
-map-at f [] i h = absurd (omega arith)
-map-at f (x ∷ xs) zero h = refl
-map-at f (x ∷ xs) (suc i) h = map-at f xs i (omega arith)
-
 -- the words of the first of some terms, and of the others
 module _ (P : Pack) (r vars from : ℕ) (t : Term) (ts : Terms) (S : Spelt P r vars from (cons t ts)) where
   long : length (termsWords (cons t ts)) ≡ length (termWords t) + length (termsWords ts)
@@ -195,15 +190,11 @@ module _ (P : Pack) (r vars from : ℕ) (t : Term) (ts : Terms) (S : Spelt P r v
     many = S .many;
     words = λ j h.
         let e : from + length (termWords t) + j ≡ from + (length (termWords t) + j) = omega arith in
-        ap (λ (n : ℕ). getD (ruleWords (ruleOf P r)) n 0) e ∙ S .words (length (termWords t) + j) (omega (arith, long)) ∙ behind (termWords t) (termsWords ts) j;
+        ap (λ (n : ℕ). getD (ruleWords (ruleOf P r)) n 0) e ∙ S .words (length (termWords t) + j) (omega (arith, long)) ∙ getD-behind (termWords t) (termsWords ts) 0 j;
     within = omega (arith, S .within, long);
     sorts = parts .1;
     sorted = both .1;
   }
-    where
-      behind : (xs ys : List ℕ) (n : ℕ) → getD (xs ++ ys) (length xs + n) 0 ≡ getD ys n 0
-      behind [] ys n = let e : 0 + n ≡ n = omega arith in ap (λ (m : ℕ). getD ys m 0) e
-      behind (x ∷ xs) ys n = let e : suc (length xs) + n ≡ suc (length xs + n) = omega arith in ap (λ (m : ℕ). getD (x ∷ (xs ++ ys)) m 0) e ∙ behind xs ys n
 
 -- one more is below, too
 below-one : (n : ℕ) (xs : List ℕ) (x : ℕ) → Below n xs → x < n → Below n (xs ++ (x ∷ []))

@@ -12,7 +12,7 @@ use Rattle.definition.specs.Good.{Below}
 use Rattle.definition.specs.Laws.Prefix.{termWords, termsWords}
 use Rattle.definition.specs.Keys.{noKeyed, keyed as keysOf}
 use Rattle.definition.specs.Verdict.{Bound}
-use Rattle.definition.specs.Store.{patternWords}
+use Rattle.definition.specs.Store.{patternWords, nothing}
 use Rattle.definition.specs.Graph.{vertex, upTo, cells as cellsOf}
 use Rattle.definition.specs.Analysis.{Numbered}
 use Rattle.definition.specs.Classes.{Class, Built, Premises, countOf, isFixed, addClass}
@@ -22,6 +22,7 @@ use Rattle.definition.specs.Answer.{Lent}
 use Rattle.definition.specs.Run.{Run, lengthOf, outcome}
 use Rattle.definition.specs.declared.Refusal.{Refusal}
 use Rattle.definition.specs.declared.Refusal.the-variants.{Short}
+use Rattle.definition.specs.Laws.Grow.{getD-behind}
 use Rattle.theory.specs.Unification.Circle.{length-upTo}
 use Rattle.base.specs.Part.{part, length-part, part-same}
 use Rattle.base.specs.Outside.{Outside}
@@ -146,17 +147,13 @@ conclusion-spells P Q r h vars from e f =
     record {
       rule = h;
       many = e;
-      words = λ j p. ap (λ (a : ℕ). getD (A ++ C) (a + j) 0) f ∙ behind A C j;
+      words = λ j p. ap (λ (a : ℕ). getD (A ++ C) (a + j) 0) f ∙ getD-behind A C 0 j;
       long = refl;
       within = omega (arith, f, length-append A C);
       few = omega (arith, length-append A C, words-most P (Q .good) r h);
       sort = prop;
       sorted = Q .good .rules r h .conclusion;
     }
-  where
-    behind : (xs ys : List ℕ) (j : ℕ) → getD (xs ++ ys) (length xs + j) 0 ≡ getD ys j 0
-    behind [] ys j = let z : 0 + j ≡ j = omega arith in ap (λ (k : ℕ). getD ys k 0) z
-    behind (x ∷ xs) ys j = let z : suc (length xs) + j ≡ suc (length xs + j) = omega arith in ap (λ (k : ℕ). getD (x ∷ (xs ++ ys)) k 0) z ∙ behind xs ys j
 
 -- numbers of variables stay below a bound when a class is read back whose variables do
 bounded-class : (P : Pack) → Proper P → (b : Built) (r n : ℕ) (ps : Premises) (vs : List Bound) (m : ℕ) → length (entriesOf P b r n ps vs .state .numbering) ≤ m → VariablesBelow m (b .store) → VariablesBelow m (entriesOf P b r n ps vs .state .store)
@@ -431,7 +428,7 @@ module _ (bytes work class words cells : List ℕ) (c : Catalog) (k : Keying) (l
     module _ (work₁ words₁ cells₁ : List ℕ) (g₁ : Counts) (st₁ : Store) (q : Concluded) (more-words : length words₁ ≡ length words) (more-cells : length cells₁ ≡ length cells)
         (C : Concludes bytes work words cells work₁ words₁ cells₁ c l st g env ending (conclusion.Read g₁ st₁ q)) where
       -- the rows end within the class buffer, and its variables are few
-      pub adding-few : (fill ≤ length class) × (q .numbered ≤ length cells) × (length cells < 4294967295)
+      pub adding-few : (fill ≤ length class) × (q .numbered ≤ length cells) × (length cells < nothing)
       adding-few =
           let R = read (K .counts) (K .pack) (K .built) (K .refs) (K .state) (K .solved) work₁ words₁ cells₁ g₁ st₁ q more-words more-cells C in
           (fill-fits (K .counts) (K .pack) (K .built) (K .refs) (K .state) (K .solved) work₁ words₁ cells₁ g₁ st₁ q more-words more-cells C, R .numbered, K .solved .valued .here .shows .laid .small)

@@ -11,6 +11,7 @@ use Rattle.definition.specs.Classes.{Built, Premises, makeRule}
 use Rattle.definition.specs.Answer.{Lent}
 use Rattle.definition.specs.Run.{Run, outcome}
 use Rattle.definition.specs.declared.Refusal.{Refusal}
+use Rattle.definition.specs.Store.{nothing}
 use Rattle.base.specs.Outside.{Outside, outside-then, outside-wider}
 use Rattle.store.specs.Stored.{nodes, written}
 use Rattle.memo.specs.declared.memo.Memo.{Memo}
@@ -48,7 +49,7 @@ pub record Making (bytes work class words cells : List ℕ) (c : Catalog) (k : K
   pub pack : Pack
   pub built : Built
   pub asks : Asks bytes work class words cells c k l counts st memo u fill i pack built
-  pub small-cells : length cells < 4294967295
+  pub small-cells : length cells < nothing
   pub small : length class < 4294967296
 
 -- the same with an environment for the rule, and room for the premises' instances

@@ -13,6 +13,7 @@ use Rattle.definition.specs.Graph.{Graph, upTo, cells as cellsOf}
 use Rattle.definition.specs.Classes.{Built, Premises}
 use Rattle.definition.specs.declared.Refusal.{Refusal}
 use Rattle.definition.specs.declared.Refusal.the-variants.{Short as TooShort}
+use Rattle.definition.specs.Store.{nothing}
 use Rattle.theory.specs.Copies.Variables.{length-of}
 use Rattle.base.specs.Part.{part}
 use Rattle.base.specs.Outside.{Outside, outside-then, outside-wider, part-ahead}
@@ -126,7 +127,7 @@ pub record Solving (bytes work class words cells : List ℕ) (c : Catalog) (k : 
   pub ruled : Ruled pack built u
   pub env-is : env ≡ upTo (u .vars)
   pub room : u .premises ≤ length instances
-  pub small : length cells < 4294967295
+  pub small : length cells < nothing
 
 -- the premises have their values, and what is left is the rest of the run
 pub record Ready (bytes work′ class words cells cells′ : List ℕ) (c : Catalog) (k : Keying) (l : Layout) (r : KeyCounts) (st : Store) (memo′ : Memo) (fill : ℕ) (g′ : Counts) (env : List ℕ) (u : Ruling) (from copies : ℕ)

@@ -109,12 +109,6 @@ abbrev pub ValuesIn : Buffers → Buffers → Building → Reached → List ℕ 
 ValuesIn B B′ s t env u instances r =
     Values (B .pack) (B .work) (B′ .work) (B .class) (B .pattern) (B .graph) (s .catalog) (s .keying) (s .layout) (s .store) (t .memo) (t .graph) env u instances (t .from) (t .copies) r
 
--- ---- the refs' judgments
-map-at : (f : ℕ → ℕ) (xs : List ℕ) (i : ℕ) → i < length xs → getD (map f xs) i 0 ≡ f (getD xs i 0)
-map-at f [] i h = absurd (omega arith)
-map-at f (x ∷ xs) zero h = refl
-map-at f (x ∷ xs) (suc i) h = map-at f xs i (omega arith)
-
 -- taken through the first steps or not
 judged-to : (P : Pack) → Good P → (s : ℕ) → s < length (P .steps) → (i : ℕ) → i ≤ length (stepOf P s .refs) → judgmentsTo P s i ≡ judged P (map (firstOf P) (take i (stepOf P s .refs)))
 unfolding judgmentsTo

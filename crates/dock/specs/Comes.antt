@@ -10,7 +10,7 @@ use Rattle.definition.specs.Frame.{Read, fine, refuse}
 use Rattle.definition.specs.Parse.{parse}
 use Rattle.definition.specs.Answer.{Lent, lengths, mostCells}
 use Rattle.definition.specs.Run.{outcome}
-use Rattle.definition.specs.Store.{patternWords}
+use Rattle.definition.specs.Store.{patternWords, nothing}
 use Rattle.definition.specs.Classes.{classWords}
 use Rattle.definition.specs.Figures.{figures}
 use Rattle.definition.specs.Calls.{Classed, classRun, called, classesLent}
@@ -46,7 +46,7 @@ pub record Spacious (bytes class pattern graph work : List ℕ) : Type 0 where
   pub room : leastRoom pattern graph bytes ≤ length work
   pub patterns : length pattern ≤ mostCells
   pub classes : length class < 4294967296
-  pub cells : length graph < 4294967295
+  pub cells : length graph < nothing
 
 -- what the run answers, whatever else is lent
 abbrev pub Runs : List ℕ → List ℕ → List ℕ → List ℕ → List ℕ → List ℕ → Built → Type 0
@@ -65,7 +65,7 @@ module _ (bytes class pattern graph : List ℕ) where
 
   -- what is read is built
   module _ (work work₁ : List ℕ) (S : Spacious bytes class pattern graph work) (P : Pack) (f : parse bytes ≡ fine P) (R : Represents bytes work₁ P) (long : length work₁ ≡ length work) (c : Catalog) (e : c ≡ tablesOf (length bytes)) where
-    pub runs-opened : Opened bytes work₁ pattern graph c × (length class < 4294967296) × (length graph < 4294967295)
+    pub runs-opened : Opened bytes work₁ pattern graph c × (length class < 4294967296) × (length graph < nothing)
     runs-opened = (opened bytes work₁ pattern graph c e P f R (S .patterns) (omega (arith, S .room, long)), S .classes, S .cells)
 
     run : (L : Lent) → ran bytes L ≡ outcome L (classRun P)

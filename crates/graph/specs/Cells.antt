@@ -12,6 +12,7 @@ use native.Mathlib.Numerals.{add-one}
 use lib.ListN.{length, getD, set, length-set, length-append, List·getD-append}
 use lib.Seq.{getD-at, getD-set-other}
 use Rattle.definition.specs.Graph.{Vertex, Graph, applied, vertex, cells}
+use Rattle.definition.specs.Store.{nothing}
 use Rattle.base.specs.Part.{part, part-same, length-part}
 use Rattle.theory.specs.Unification.Like.{Like}
 use Rattle.graph.specs.declared.graph.Graph.{Graph as Counts}
@@ -92,7 +93,7 @@ pub record Laid (words table : List ℕ) (s : Counts) : Type 0 where
   pub rising : (i : ℕ) → i < s .nodes → startIn table i + 1 ≤ startIn table (suc i)
   pub end : startIn table (s .nodes) ≡ s .used
   pub fits : s .used ≤ length words
-  pub small : length words < 4294967295
+  pub small : length words < nothing
 
 -- cells and table hold the graph g, whatever way its links go
 pub record Shows (words table : List ℕ) (s : Counts) (g : Graph) : Type 0 where

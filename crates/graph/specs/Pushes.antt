@@ -18,7 +18,7 @@ use Rattle.graph.specs.declared.graph.Pushed.the-variants.{At, Short}
 use Rattle.graph.specs.Cells.{startIn, linkWord, restAt, sortWord, flexWord, rigidWord, markIn, vertexIn, graphIn, length-graphIn, graph-kept, rowsEnd, Laid, Shows, cells-used, Unchanged, unchanged-then, unchanged-set}
 
 -- ---- no node
-pub shows-none : (words table : List ℕ) → 5 * length words + 5 ≤ length table → length words < 4294967295 → startIn table 0 ≡ 0 → Shows words table (record { nodes = 0; used = 0 }) []
+pub shows-none : (words table : List ℕ) → 5 * length words + 5 ≤ length table → length words < nothing → startIn table 0 ≡ 0 → Shows words table (record { nodes = 0; used = 0 }) []
 unfolding graphIn
 shows-none words table wide small z = record {
   laid = record { wide = wide; first = z; rising = λ i h. absurd (omega arith); end = z; fits = omega arith; small = small };

@@ -12,6 +12,7 @@ use lib.Seq.{getD-set-same, getD-set-other}
 use Rattle.definition.specs.Test.{Is, is, see}
 use Rattle.definition.specs.Laws.Grow.{below-at}
 use Rattle.definition.specs.Graph.{Graph, vertex, root, isVar, circular}
+use Rattle.definition.specs.Store.{nothing}
 use Rattle.graph.specs.declared.graph.Graph.{Graph as Counts}
 use Rattle.graph_unify.specs.declared.circle.Seen.{Seen}
 use Rattle.graph_unify.specs.declared.circle.Seen.the-variants.{Ends, Deeper, Circle as Met}
@@ -240,7 +241,7 @@ module _ (words table colour path : List ℕ) (s : Counts) (top x i : ℕ) (H : 
   pub looking-room : 2 * (top + 1) + 2 ≤ length path
   looking-room = omega (arith, H .2 .under .room, H .2 .under .walk .few, as-many words table s (H .0) S₀, few-nodes words table s (H .0) S₀)
 
-  pub looking-small : (i < 4294967295) × (s .nodes < 4294967296)
+  pub looking-small : (i < nothing) × (s .nodes < 4294967296)
   looking-small =
       let a = looking-argument in
       let b = end-there words table s looking-laid x looking-node in

@@ -8,6 +8,7 @@ use lib.ListN.{length, getD, set, length-set}
 use lib.Seq.{getD-set-same, getD-set-other}
 use Rattle.definition.specs.Test.{never}
 use Rattle.definition.specs.Graph.{Graph, Pair, on, clashed, vertex, meet, root, cells, takePairs, unify}
+use Rattle.definition.specs.Store.{nothing}
 use Rattle.theory.specs.Unification.Solve.{openCells}
 use Rattle.theory.specs.Unification.Forest.{root-inside, root-self}
 use Rattle.theory.specs.Unification.Like.{own-root}
@@ -166,7 +167,7 @@ module _ (words table : List ℕ) (s : Counts) (top : ℕ) (R : Ready words tabl
   pub pair-room : 2 * top + 2 ≤ 2 * length words + 2
   pair-room = omega (arith, R .4 .enough, R .4 .most, R .4 .shows .laid .fits)
 
-  pub cells-small : length words < 4294967295
+  pub cells-small : length words < nothing
   cells-small = R .4 .shows .laid .small
 
 -- a node found is found by whatever else it is

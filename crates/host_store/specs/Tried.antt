@@ -5,7 +5,7 @@ use Prim.Native.Nat.{ℕ, _+_, _*_, _/_}
 use lib.Dec.{leb, ltb}
 use lib.ListN.{length, replicate}
 use Rattle.definition.specs.Pack.{Node}
-use Rattle.definition.specs.Store.{intern, patternWords, nodesIn}
+use Rattle.definition.specs.Store.{intern, patternWords, nodesIn, nothing}
 use Rattle.definition.specs.Answer.{padded}
 use Rattle.host_store.specs.declared.Tried.{Tried}
 
@@ -44,7 +44,7 @@ refused code = leaves code 0 [] []
 
 -- 2^32−1 words or more, or an index that is too short for them
 unfoldable pub unfit : ℕ → ℕ → Bool
-unfit index words = leb 4294967295 words || ltb index (4 * (words / 2) + 1)
+unfit index words = leb nothing words || ltb index (4 * (words / 2) + 1)
 
 -- short when the store has more words than are lent, else done
 unfoldable pub ended : All → ℕ → ℕ → ℕ → Left

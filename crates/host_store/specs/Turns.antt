@@ -13,7 +13,7 @@ use lib.ListN.{length, getD, take, drop, set, replicate, length-set, length-drop
 use lib.Seq.{take-all, take-suc-set, drop-cons, drop-drop, length-take-le}
 use Rattle.definition.specs.Test.{is, see, never}
 use Rattle.definition.specs.Pack.{Node}
-use Rattle.definition.specs.Store.{placeOf, intern, patternWords, nodesIn}
+use Rattle.definition.specs.Store.{placeOf, intern, patternWords, nodesIn, nothing}
 use Rattle.definition.specs.Answer.{padded, padded-none}
 use Rattle.buffer.specs.Zero.{zeroed}
 use Rattle.store.specs.Words.{nodeWith, length-more, begins-take, begins-long}
@@ -189,19 +189,19 @@ module _ (from numbers : List ℕ) (s : List Node) (at i : ℕ) (H : Halfway fro
         rw (sym S) (omega arith)
 
 -- ---- the lengths
-pub unfit-long : (index words : ℕ) → 4294967295 ≤ words → unfit index words ≡ true
+pub unfit-long : (index words : ℕ) → nothing ≤ words → unfit index words ≡ true
 unfolding unfit
-unfit-long index words h = rw (le-leb 4294967295 words h)
+unfit-long index words h = rw (le-leb nothing words h)
 
-pub unfit-index : (index words : ℕ) → words < 4294967295 → unfit index words ≡ ltb index (4 * (words / 2) + 1)
+pub unfit-index : (index words : ℕ) → words < nothing → unfit index words ≡ ltb index (4 * (words / 2) + 1)
 unfolding unfit
-unfit-index index words h = rw (lt-leb 4294967295 words h)
+unfit-index index words h = rw (lt-leb nothing words h)
 
 pub fit : (index words : List ℕ) → unfit (length index) (length words) ≡ false → Enough index words
-fit index words e = elim (see (leb 4294967295 (length words))) [
+fit index words e = elim (see (leb nothing (length words))) [
   | is true t ↦ never (let z : true ≡ false = sym (unfit-long (length index) (length words) (leb-true _ _ t)) ∙ e in cc)
   | is false t ↦
-      let small : length words < 4294967295 = leb-false _ _ t in
+      let small : length words < nothing = leb-false _ _ t in
       let f : ltb (length index) (4 * (length words / 2) + 1) ≡ false = sym (unfit-index (length index) (length words) small) ∙ e in
       record { small = small; wide = ltb-false _ _ f }
 ]

@@ -12,6 +12,7 @@ use lib.ListN.{length, drop, set, replicate, length-map, length-replicate}
 use Rattle.definition.specs.Test.{is, see, never, _and_}
 use Rattle.definition.specs.Graph.{Graph, root, Unified, unify, upTo, circular}
 use Rattle.definition.specs.Answer.{padded, padded-none}
+use Rattle.definition.specs.Store.{nothing}
 use Rattle.base.specs.Part.{put, put-none, put-more}
 use Rattle.theory.specs.Unification.Circle.{length-upTo}
 use Rattle.graph.specs.declared.graph.Graph.{Graph as Counts}
@@ -52,7 +53,7 @@ Asks cells work s x y stage t n = (g : Graph) → Shows cells work s g → Inner
 
 -- ---- roots
 -- numbers of nodes are words
-pub nodes-small : (cells work : List ℕ) (s : Counts) (g : Graph) → Shows cells work s g → s .nodes < 4294967295
+pub nodes-small : (cells work : List ℕ) (s : Counts) (g : Graph) → Shows cells work s g → s .nodes < nothing
 nodes-small cells work s g S = omega (arith, nodes-few cells work s (S .laid), S .laid .fits, S .laid .small)
 
 -- as many roots as nodes
@@ -181,7 +182,7 @@ unfolding unfit
 unfit-work cells work h = rw (lt-leb 16777216 cells h)
 
 -- lengths that fit are what the graph asks for
-pub fit : (cells work : List ℕ) → unfit (length cells) (length work) ≡ false → (coloursEnd cells ≤ length work) × (length cells < 4294967295)
+pub fit : (cells work : List ℕ) → unfit (length cells) (length work) ≡ false → (coloursEnd cells ≤ length work) × (length cells < nothing)
 fit cells work e = elim (see (leb 16777216 (length cells))) [
   | is true t ↦ never (let z : true ≡ false = sym (unfit-long (length cells) (length work) (leb-true _ _ t)) ∙ e in cc)
   | is false t ↦

@@ -12,6 +12,7 @@ use Rattle.definition.specs.Pack.{Pack}
 use Rattle.definition.specs.Frame.{fine}
 use Rattle.definition.specs.Parse.{parse}
 use Rattle.definition.specs.Graph.{Graph, cells as cellsOf}
+use Rattle.definition.specs.Store.{nothing}
 use Rattle.base.specs.Part.{part}
 use Rattle.base.specs.declared.id.Node.{Node}
 use Rattle.base.specs.declared.id.Pattern.{Pattern}
@@ -272,7 +273,7 @@ module _ (bytes from work words cells flex : List ℕ) (c : Catalog) (M : Marked
     marked-low = lays-low bytes work (length words) (length cells) c l (M .opened) (M .tables) L
 
     -- they are within
-    pub marked-inside : (l .end ≤ length work) × (length words < 4294967295)
+    pub marked-inside : (l .end ≤ length work) × (length words < nothing)
     marked-inside = let F = M .opened .fit in (omega (arith, marked-low, F .least), omega (arith, F .pattern))
 
     module _ (work₁ : List ℕ) (st₀ : Store) (T : Stores bytes work work₁ words c l st₀) (work₂ words′ : List ℕ) (long : length words′ ≡ length words) where

@@ -9,6 +9,7 @@ use Rattle.definition.specs.Pack.{Pack}
 use Rattle.definition.specs.Frame.{fine}
 use Rattle.definition.specs.Parse.{parse}
 use Rattle.definition.specs.Answer.{lengths}
+use Rattle.definition.specs.Store.{nothing}
 use Rattle.base.specs.Part.{part, put, length-part, length-put, put-before, part-put}
 use Rattle.store.specs.Stored.{Stored, nodes}
 use Rattle.store.specs.declared.nodes.Store.{Store}
@@ -58,7 +59,7 @@ pub record Stores (bytes work work′ words : List ℕ) (c : Catalog) (l : Lifte
   pub lifts : Lifts bytes work′ words c l st
   pub same : Same work work′ c
 
-module _ (bytes work words : List ℕ) (c : Catalog) (l : Lifted) (H : Held bytes work c) (L : Lays work (length words) c l) (inside : l .end ≤ length work) (small : length words < 4294967295) where
+module _ (bytes work words : List ℕ) (c : Catalog) (l : Lifted) (H : Held bytes work c) (L : Lays work (length words) c l) (inside : l .end ≤ length work) (small : length words < nothing) where
   module _ (index : List ℕ) (long : length index ≡ length (take (l .end - (l .at + 3 * l .nodes)) (drop (l .at + 3 * l .nodes) work))) (st : Store) (S : Stored index words st) where
     -- the words with the index
     abbrev indexed : List ℕ

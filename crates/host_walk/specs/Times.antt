@@ -8,6 +8,7 @@ use native.Mathlib.Decide.{ℕ-discrete}
 use lib.ListN.{length, getD, take, drop}
 use Rattle.definition.specs.Graph.{Grown, cells as cellsOf}
 use Rattle.definition.specs.Analysis.{copied}
+use Rattle.definition.specs.Store.{nothing}
 use Rattle.base.specs.Part.{part, put, part-same, length-part, length-put, part-put, put-before}
 use Rattle.base.specs.declared.id.Node.{Node as Id}
 use Rattle.store.specs.Stored.{Stored, nodes}
@@ -39,7 +40,7 @@ pub record Started (work words cells flex : List ℕ) (l : Copying) (st : Store)
   pub laid : Laid work words cells flex l
   pub stored : Stored (indexIn work l) words st
   pub patterns : Patterns (nodes words st)
-  pub small : length cells < 4294967295
+  pub small : length cells < nothing
   pub given : p < length (nodes words st)
 
 -- so many copies of it

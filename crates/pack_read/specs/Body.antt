@@ -5,7 +5,7 @@ use Prim.Native.Nat.{ℕ, _+_, _*_, _-_, _/_}
 use lib.ListN.{length, getD, drop}
 use Rattle.definition.specs.Little.{le}
 use Rattle.definition.specs.Theory.{words}
-use Rattle.definition.specs.Pack.{Symbol, Node, Step, Goal, Result, Cut, Abstract}
+use Rattle.definition.specs.Pack.{Symbol, Node, Step, Goal, Result, Cut, Abstract, prop}
 use Rattle.pack_tables.specs.Place.{Place, noPlace, bodyAt}
 
 -- the body of record i of these
@@ -48,7 +48,7 @@ unfolding le
 abstractIn body = record { constructor = le 4 body 0; position = le 4 body 4 }
 
 -- a predicate `P` of one input of sort 1; node 5 over the nodes 1 and 258; a step by rule 3 to node 4 from step 2
-symbol : symbolIn (255 ∷ 255 ∷ 255 ∷ 255 ∷ 1 ∷ 0 ∷ 1 ∷ 0 ∷ 0 ∷ 0 ∷ 80 ∷ []) ≡ record { output = 4294967295; inputs = 1 ∷ []; name = 80 ∷ [] }
+symbol : symbolIn (255 ∷ 255 ∷ 255 ∷ 255 ∷ 1 ∷ 0 ∷ 1 ∷ 0 ∷ 0 ∷ 0 ∷ 80 ∷ []) ≡ record { output = prop; inputs = 1 ∷ []; name = 80 ∷ [] }
 unfolding symbolIn
 symbol = refl
 

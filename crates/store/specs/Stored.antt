@@ -4,7 +4,7 @@ use mathlib.Core.List.{List, [], _∷_, _++_}
 use Prim.Native.Nat.{ℕ, _+_, _-_, _*_, _/_, _≤_, _<_}
 use lib.ListN.{length, getD, set, drop}
 use Rattle.definition.specs.Pack.{Node, noNode}
-use Rattle.definition.specs.Store.{intern, patternWords, nodesIn}
+use Rattle.definition.specs.Store.{intern, patternWords, nodesIn, nothing}
 use Rattle.definition.specs.Laws.Store.{StoreOnce}
 use Rattle.base.specs.Part.{part}
 use Rattle.base.specs.Probe.{Table, Passed}
@@ -40,7 +40,7 @@ nodeAt s i = getD s i noNode
 
 -- the two slices are long enough for each other, and their numbers are words
 pub record Enough (index words : List ℕ) : Type 0 where
-  pub small : length words < 4294967295
+  pub small : length words < nothing
   pub wide : 4 * roomIn words + 1 ≤ length index
 
 -- the words of the nodes, and where each starts

@@ -7,7 +7,7 @@ use Prim.Native.Nat.{ℕ, _+_, _-_, _≤_, _<_}
 use native.Mathlib.Omega.{arith}
 use borrow.Author.Tests.{eq-eqb, ne-eqb}
 use lib.ListN.{length, getD, set, take, drop}
-use Rattle.definition.specs.Store.{variableHead}
+use Rattle.definition.specs.Store.{variableHead, nothing}
 use Rattle.definition.specs.Graph.{Vertex, variableVertex, applied}
 use Rattle.base.specs.Part.{put}
 use Rattle.base.specs.Outside.{Outside, outside-then, outside-wider}
@@ -28,7 +28,7 @@ use Rattle.graph.specs.declared.graph.Graph.{Graph as Counts}
 
 -- ---- a node more in the graph
 -- its number is a word, and so is the next one
-pub number-small : (cells cells′ table table′ : List ℕ) (g g′ : Counts) (v : Vertex) (x : Node) → Holds cells table g → Pushes cells cells′ table table′ g v (At x g′) → x .0 < 4294967295
+pub number-small : (cells cells′ table table′ : List ℕ) (g g′ : Counts) (v : Vertex) (x : Node) → Holds cells table g → Pushes cells cells′ table table′ g v (At x g′) → x .0 < nothing
 number-small cells cells′ table table′ g g′ v x H P =
     let S = H .1 in
     omega (arith, P .0 (H .0) S .0, many-nodes cells table g (H .0) S, nodes-few cells table g (S .laid), S .laid .fits, S .laid .small)
@@ -95,7 +95,7 @@ module _ (work cells cells′ flex : List ℕ) (l : Copying) (memo : Memo) (g : 
 
   module _ (x : Node) (g′ : Counts) (e : r ≡ At x g′) where
     -- what noting it asks
-    pub note-small : x .0 < 4294967295
+    pub note-small : x .0 < nothing
     note-small = number-small cells cells′ (rowsIn work cells l) (rowsIn mid cells l) g g′ v x H (answered (At x g′) e .0)
 
     -- and the variables' words are within

@@ -13,6 +13,7 @@ use lib.Seq.{getD-set-same, getD-set-other, getD-drop, take-all}
 use Rattle.definition.specs.Test.{is, see}
 use Rattle.definition.specs.Store.{variableHead}
 use Rattle.definition.specs.Good.{Below}
+use Rattle.definition.specs.Laws.Grow.{map-at, below-at}
 use Rattle.base.specs.Part.{take-copied}
 use Rattle.base.specs.Outside.{Outside, outside-none, outside-set}
 use Rattle.memo.specs.Recall.{known}
@@ -42,24 +43,12 @@ gather-more f key args i v h k e t =
     let q : 1 + i ≡ i + 1 = omega arith in
     let w : v ≡ getD ys i 0 = e ∙ ap (λ (j : ℕ). f (getD key j 0)) (sym q) ∙ ap f (sym (getD-drop 1 key i 0)) ∙ sym (map-at f (drop 1 key) i (omega (arith, length-drop 1 key))) in
     ap (λ (j : ℕ). take (i + 1) (set args i j)) w ∙ take-copied i ys args (omega (arith, m)) k t
-  where
-    -- a list mapped, at a place
-    map-at : (f : ℕ → ℕ) (xs : List ℕ) (i : ℕ) → i < length xs → getD (map f xs) i 0 ≡ f (getD xs i 0)
-    map-at f [] i h = absurd (omega arith)
-    map-at f (x ∷ xs) zero h = refl
-    map-at f (x ∷ xs) (suc i) h = map-at f xs i (omega arith)
 
 -- all of them
 pub gather-all : (f : ℕ → ℕ) (key args : List ℕ) (i : ℕ) → length key - 1 ≤ i → i ≤ length key - 1 → take i args ≡ take i (map f (drop 1 key)) → take (length key - 1) args ≡ map f (drop 1 key)
 gather-all f key args i h k t =
     let e : length key - 1 ≡ i = omega arith in
     ap (λ (j : ℕ). take j args) e ∙ t ∙ take-all i (map f (drop 1 key)) (omega (arith, length-map (drop 1 key) f, length-drop 1 key))
-
--- a number below n at its place
-pub below-at : (n : ℕ) (xs : List ℕ) (i : ℕ) → Below n xs → i < length xs → getD xs i 0 < n
-below-at n [] i b h = absurd (omega arith)
-below-at n (x ∷ xs) zero b h = b .0
-below-at n (x ∷ xs) (suc i) b h = below-at n xs i (b .1) (omega arith)
 
 -- an argument of a key
 pub argument-below : (n : ℕ) (key : List ℕ) (i : ℕ) → Below n (drop 1 key) → i + 1 < length key → getD key (i + 1) 0 < n

@@ -8,6 +8,7 @@ use lib.ListN.{length, getD, take}
 use lib.Seq.{take-suc, take-length, length-take-le}
 use Rattle.definition.specs.Pack.{Pack, ruleOf}
 use Rattle.definition.specs.Graph.{Vertex, Graph, variableVertex, cells as cellsOf}
+use Rattle.definition.specs.Store.{nothing}
 use Rattle.base.specs.Outside.{outside-none, outside-then}
 use Rattle.pack_tables.specs.Catalog.{recordsOf}
 use Rattle.pack_tables.specs.SameTables.{Same}
@@ -37,7 +38,7 @@ pub record Opening (bytes work cells : List ℕ) (c : Catalog) (l : Place) : Typ
   pub room : Room work cells c l
   pub rule : l .rule < length (held .pack .rules)
   pub many : l .vars ≡ length (ruleOf (held .pack) (l .rule) .vars)
-  pub small : length cells < 4294967295
+  pub small : length cells < nothing
 
 -- what is answered: a graph of the variables alone, or that they are more than there are cells
 abbrev pub Opens : List ℕ → List ℕ → List ℕ → List ℕ → List ℕ → Catalog → Place → Opened → Type 0

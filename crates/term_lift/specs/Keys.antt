@@ -1,5 +1,5 @@
 -- A node's key built word by word, and what is asked of the node.
-use mathlib.Core.Path.{_≡_, refl, sym, ap, _∙_}
+use mathlib.Core.Path.{_≡_, sym, ap, _∙_}
 use mathlib.Core.List.{List, [], _∷_, _++_, map, map-append}
 use Prim.Native.Nat.{ℕ, suc, _+_, _-_, _≤_, _<_}
 use native.Mathlib.Numerals.{add-one}
@@ -7,7 +7,7 @@ use native.Mathlib.Omega.{arith}
 use lib.ListN.{length, getD, set, take, length-set}
 use lib.Seq.{take-suc, take-suc-set, take-all}
 use Rattle.definition.specs.Pack.{Pack, nodeOf, symbolOf}
-use Rattle.definition.specs.Good.{Arguments}
+use Rattle.definition.specs.Laws.Tree.{arguments-many}
 use Rattle.theory.specs.Walks.Walk.{under-at, below-under}
 use Rattle.theory.specs.Walks.Lifting.{argsOf, args-inside}
 use Rattle.pack_tables.specs.Catalog.{recordsOf}
@@ -17,13 +17,6 @@ use Rattle.pack_read.specs.Says.{OfPack}
 use Rattle.pack_read.specs.Held.{Proper, OfHeld}
 use Rattle.term_lift.specs.Lifts.{Ripe, Keyed, patternIn}
 use Rattle.term_lift.specs.declared.lift.Lifted.{Lifted}
-
--- as many arguments as sorts of them
-arguments-many : (P : Pack) (i : ℕ) (ss args : List ℕ) → Arguments P i ss args → length args ≡ length ss
-arguments-many P i [] [] a = refl
-arguments-many P i [] (x ∷ args) a = absurd a
-arguments-many P i (s ∷ ss) [] a = absurd a
-arguments-many P i (s ∷ ss) (x ∷ args) a = ap suc (arguments-many P i ss args (a .2))
 
 -- a node has at most 16 arguments
 pub arguments-few : (P : Pack) → Proper P → (n : ℕ) → n < length (P .nodes) → length (argsOf P n) ≤ 16

@@ -8,6 +8,7 @@ use native.Mathlib.Omega.{arith}
 use lib.Dec.{eqb, ltb}
 use lib.ListN.{length, getD}
 use Rattle.definition.specs.Test.{is, _and_}
+use Rattle.definition.specs.Store.{nothing}
 use Rattle.theory.specs.Walks.Machine.{Walking}
 use Rattle.theory.specs.Walks.Resolving.{Resolving}
 use Rattle.store.specs.Stored.{nodes, written}
@@ -50,7 +51,7 @@ module _ (bytes work words cells : List ℕ) (c : Catalog) (l : Lifted) (t : Tab
         (omega (arith, room bytes work words cells c l t st g n everyone top (T .pack) (T .graph) (T .sane) (T .values) (T .state) (T .running) .0, L .room), L .fits)
 
     -- the cells are few
-    pub turning-small : length cells < 4294967295
+    pub turning-small : length cells < nothing
     turning-small = T .running .holding .lies .stands .shows .laid .small
 
     -- there is room for the frame

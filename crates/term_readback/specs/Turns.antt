@@ -13,6 +13,7 @@ use Rattle.definition.specs.Pack.{Pack}
 use Rattle.definition.specs.Verdict.{Bound, valueOf}
 use Rattle.definition.specs.Graph.{Graph, vertex, root, isVar}
 use Rattle.definition.specs.Classes.{isSome}
+use Rattle.definition.specs.Laws.Grow.{map-at}
 use Rattle.theory.specs.Walks.Walk.{Known}
 use Rattle.theory.specs.Walks.Machine.{Frame, frame, Walking, walking, turn, height, turn-kept}
 use Rattle.theory.specs.Walks.Memo.{has}
@@ -32,7 +33,6 @@ use Rattle.term_readback.specs.Words.{patternsAt, tableIn, marksIn, Says
 use Rattle.term_readback.specs.Moved.{nodes-most, holding-moves}
 use Rattle.term_readback.specs.Asked.{CountOf, graph-long}
 use Rattle.term_readback.specs.Roots.{Open}
-use Rattle.term_readback.specs.Ways.{map-at}
 use Rattle.term_readback.specs.Stacks.{Sane, framesOf, Running, turnOf, Enters}
 
 -- whether a root was read back, by its word

@@ -12,6 +12,7 @@ use Rattle.definition.specs.Verdict.{Bound}
 use Rattle.definition.specs.Store.{variableHead, intern, patternWords}
 use Rattle.definition.specs.Graph.{Graph, vertex, root}
 use Rattle.definition.specs.Analysis.{lift, ResolvedOne, copied}
+use Rattle.definition.specs.Laws.Grow.{map-at}
 use Rattle.theory.specs.Patterns.Interned.{interned, lifted}
 use Rattle.theory.specs.Walks.Levels.{roots-applied}
 use Rattle.theory.specs.Walks.Walk.{Known, under-at, below-under}
@@ -45,12 +46,6 @@ known-at : {S : Type 0} (known : S → ℕ → Bool) (s : S) (xs : List ℕ) →
 known-at known s [] k j h = absurd (omega arith)
 known-at known s (x ∷ xs) k zero h = k .0
 known-at known s (x ∷ xs) k (suc j) h = known-at known s xs (k .1) j (omega arith)
-
--- each place of a mapped list
-pub map-at : (f : ℕ → ℕ) (xs : List ℕ) (j : ℕ) → j < length xs → getD (map f xs) j 0 ≡ f (getD xs j 0)
-map-at f [] j h = absurd (omega arith)
-map-at f (x ∷ xs) zero h = refl
-map-at f (x ∷ xs) (suc j) h = map-at f xs j (omega arith)
 
 -- a word is put behind a part
 part-longer : (a n : ℕ) (xs : List ℕ) (v : ℕ) → a + n < length xs → part a n xs ++ (v ∷ []) ≡ part a (n + 1) (set xs (a + n) v)

@@ -7,7 +7,7 @@ use native.Mathlib.Omega.{arith}
 use lib.ListN.{length, set}
 use Rattle.definition.specs.Pack.{Pack, nodeOf}
 use Rattle.definition.specs.Verdict.{Bound}
-use Rattle.definition.specs.Store.{variableHead}
+use Rattle.definition.specs.Store.{variableHead, nothing}
 use Rattle.definition.specs.Graph.{Graph, Pair, vertex}
 use Rattle.definition.specs.Analysis.{pairing}
 use Rattle.term_values.specs.Words.{valuesEnd, valuesAt, tableIn, Stands, Framed, Values, Says, few-nodes, stands-value, table-room, framed-same, values-on}
@@ -60,7 +60,7 @@ module _ (bytes work words : List ℕ) (c : Catalog) (l : Valued) (s : Counts) (
   fresh-inside = let H = Q .values in omega (arith, Q .node, few-nodes words (tableIn l work) s (H .graph) (H .values) (H .stands))
 
   -- a ground node's number and one is a word
-  pub fresh-small : n < 4294967295
+  pub fresh-small : n < nothing
   unfolding recordsOf places
   fresh-small =
       let C = Q .values .held .cataloged in

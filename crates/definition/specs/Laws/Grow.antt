@@ -2,7 +2,7 @@
 use mathlib.Core.Path.{_≡_, refl, sym, ap, _∙_}
 use mathlib.Core.Bool.{Bool, true, false, not, _||_}
 use mathlib.Core.List.{List, [], _∷_, _++_, map}
-use Prim.Native.Nat.{ℕ, zero, suc, _≤_, _<_}
+use Prim.Native.Nat.{ℕ, zero, suc, _+_, _≤_, _<_}
 use native.Mathlib.Omega.{arith}
 use borrow.Author.Tests.{not-true}
 use lib.Dec.{ltb}
@@ -55,6 +55,17 @@ place n i h = elim (see (ltb i n)) [
   | is true p ↦ before (omega tests)
   | is false p ↦ last (omega tests)
 ]
+
+-- a mapped list, at a place
+pub map-at : (f : ℕ → ℕ) (xs : List ℕ) (i : ℕ) → i < length xs → getD (map f xs) i 0 ≡ f (getD xs i 0)
+map-at f [] i h = absurd (omega arith)
+map-at f (x ∷ xs) zero h = refl
+map-at f (x ∷ xs) (suc i) h = map-at f xs i (omega arith)
+
+-- behind a list stands the other
+pub getD-behind : {A : Type 0} (xs ys : List A) (d : A) (n : ℕ) → getD (xs ++ ys) (length xs + n) d ≡ getD ys n d
+getD-behind [] ys d n = let e : 0 + n ≡ n = omega arith in ap (λ (m : ℕ). getD ys m d) e
+getD-behind (x ∷ xs) ys d n = let e : suc (length xs) + n ≡ suc (length xs + n) = omega arith in ap (λ (m : ℕ). getD (x ∷ (xs ++ ys)) m d) e ∙ getD-behind xs ys d n
 
 -- one element more
 pub length-more : {A : Type 0} (xs : List A) (x : A) → length (xs ++ (x ∷ [])) ≡ suc (length xs)

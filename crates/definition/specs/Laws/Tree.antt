@@ -64,6 +64,13 @@ grow-new ts (n ∷ ns) b (suc i) h =
     λ k m. below-more (length ts + suc k) (length (ts ++ (x ∷ [])) + k) (getD ns k noNode .args) (omega arith) (b (suc k) (omega arith)) in
     rw e (grow-new (ts ++ (x ∷ [])) ns c i (omega arith))
 
+-- as many arguments as sorts of them
+pub arguments-many : (P : Pack) (i : ℕ) (ss args : List ℕ) → Arguments P i ss args → length args ≡ length ss
+arguments-many P i [] [] a = refl
+arguments-many P i [] (x ∷ args) a = absurd a
+arguments-many P i (s ∷ ss) [] a = absurd a
+arguments-many P i (s ∷ ss) (x ∷ args) a = ap suc (arguments-many P i ss args (a .2))
+
 -- a good pack's nodes rest on earlier ones
 pub args-below : (P : Pack) → Good P → (n : ℕ) → n < length (P .nodes) → Below n (nodeOf P n .args)
 args-below P G n h = let g = G .nodes n h in arguments-below P n (symbolOf P (nodeOf P n .head) .inputs) (nodeOf P n .args) (g .args)

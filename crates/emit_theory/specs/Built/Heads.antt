@@ -19,19 +19,14 @@ use Rattle.definition.specs.Analysis.{instantiate, instantiateAll}
 use Rattle.definition.specs.Keys.{Key, cutKey, ruleKey, noKeyed, keyed}
 use Rattle.definition.specs.Classes.{noClass, Built}
 use Rattle.emission.specs.Patterns.{hasHead}
-use Rattle.theory.specs.Unification.Roots.{follow-none}
 use Rattle.theory.specs.Unification.Turn.{meet-unlike}
 use Rattle.theory.specs.Unification.Unify.{take-clashed}
+use Rattle.theory.specs.Unification.Forest.{root-self}
 
 -- an application is no variable that may be bound
 applied-bound : (v : Vertex) → isVar v ≡ false → isFree v ≡ false
 unfolding isFree _and_
 applied-bound v e = rw (e, _and_)
-
--- a node that is joined to none is its own root
-own-root : (g : Graph) (x : ℕ) → vertex g x .link ≡ none → root g x ≡ x
-unfolding root
-own-root g x e = follow-none (length g) g x e
 
 -- two applications that are joined to none and unify have one head
 pub unify-heads : (g : Graph) (x y : ℕ) → vertex g x .link ≡ none → vertex g y .link ≡ none → isVar (vertex g x) ≡ false → isVar (vertex g y) ≡ false
@@ -45,7 +40,7 @@ unify-heads g x y lx ly vx vy h e = elim (see (eqb x y)) [
         let pair : Pair = record { left = x; right = y } in
         let apps : isVar (vertex g x) || isVar (vertex g y) ≡ false = rw (vx, vy) refl in
         let unlike = meet-unlike g x y [] (eqb-false x y p) (applied-bound (vertex g x) vx) (applied-bound (vertex g y) vy) apps (eqb-false (vertex g x .head) (vertex g y .head) q) in
-        let m : meet g (root g x) (root g y) [] ≡ clashed = rw (own-root g x lx, own-root g y ly) unlike in
+        let m : meet g (root g x) (root g y) [] ≡ clashed = rw (root-self g x lx, root-self g y ly) unlike in
         never (let z : none ≡ some h = sym (ap (λ (u : Unified). u .graph) (take-clashed (cells g) g pair [] 0 m)) ∙ e in cc)
   ]
 ]

@@ -7,12 +7,12 @@ use Prim.Native.Nat.{ℕ, zero, suc, _+_, _<_, _≤_}
 use native.Mathlib.Omega.{arith}
 use borrow.Author.Tests.{eqb-true, eqb-false}
 use lib.Dec.{eqb}
-use lib.ListN.{length, getD, set, length-append, length-set, List·getD-append}
+use lib.ListN.{length, getD, set, length-set, List·getD-append}
 use lib.Seq.{getD-at, getD-set-same, getD-set-other}
 use Rattle.definition.specs.Test.{is, see, never, tests, any}
 use Rattle.definition.specs.Pack.{Pack, stepOf}
 use Rattle.definition.specs.Good.{Good}
-use Rattle.definition.specs.Laws.Grow.{below-more}
+use Rattle.definition.specs.Laws.Grow.{below-more, length-more}
 use Rattle.definition.specs.Store.{nothing}
 use Rattle.definition.specs.Graph.{upTo}
 use Rattle.definition.specs.Classes.{countOf}
@@ -44,9 +44,6 @@ old-word ws c s h = List·getD-append ws (c ∷ []) 0 s h
 
 new-word : (ws : List ℕ) (c : ℕ) → getD (ws ++ (c ∷ [])) (length ws) 0 ≡ c
 new-word ws c = getD-at ws c [] 0 (length ws) refl
-
-length-one : {A : Type 0} (xs : List A) (x : A) → length (xs ++ (x ∷ [])) ≡ suc (length xs)
-length-one xs x = length-append xs (x ∷ []) ∙ omega arith
 
 -- the key of a class stays when it is counted up
 key-set : (xs : List Keyed) (c d : ℕ) → c < length xs → getD (set xs c (oneMore (getD xs c noKeyed))) d noKeyed .key ≡ getD xs d noKeyed .key
@@ -94,7 +91,7 @@ module _ (P : Pack) (G : Good P) (wanted : List ℕ) where
       → Kept P wanted (record { words = k .words ++ (nothing ∷ []); classes = k .classes })
   kept-out k K l w =
       let ws = k .words in
-      let n = length-one ws nothing in
+      let n = length-more ws nothing in
       record {
         classed = λ s h a. elim (see (eqb s (length ws))) [
           | is true p ↦ never (let e = eqb-true s (length ws) p in let z : true ≡ false = sym a ∙ ap (λ (i : ℕ). any (eqb i) wanted) e ∙ w in cc)
@@ -126,7 +123,7 @@ module _ (P : Pack) (G : Good P) (wanted : List ℕ) where
       let ws = k .words in
       let xs = k .classes in
       let ys = set xs c (oneMore (getD xs c noKeyed)) in
-      let n = length-one ws c in
+      let n = length-more ws c in
       let m : length ys ≡ length xs = length-set xs c (oneMore (getD xs c noKeyed)) in
       record {
         classed = λ s o a. elim (see (eqb s (length ws))) [
@@ -174,8 +171,8 @@ module _ (P : Pack) (G : Good P) (wanted : List ℕ) where
       let key = keyOf P ws (length ws) in
       let x : Keyed = record { key = key; first = length ws; count = 1 } in
       let c = length xs in
-      let n = length-one ws c in
-      let m = length-one xs x in
+      let n = length-more ws c in
+      let m = length-more xs x in
       let old : (d : ℕ) → d < c → getD (xs ++ (x ∷ [])) d noKeyed ≡ getD xs d noKeyed = λ d h. List·getD-append xs (x ∷ []) noKeyed d h in
       let last : getD (xs ++ (x ∷ [])) c noKeyed ≡ x = getD-at xs x [] noKeyed c refl in
       record {
@@ -262,10 +259,10 @@ module _ (P : Pack) (G : Good P) (wanted : List ℕ) where
   step-word : (k : Keys) (s : ℕ) → length (keySteps P wanted (s ∷ []) k .words) ≡ suc (length (k .words))
   unfolding keySteps keyStep
   step-word k s = elim (see (any (eqb s) wanted)) [
-    | is false w ↦ rw (w, keySteps) (length-one (k .words) nothing)
+    | is false w ↦ rw (w, keySteps) (length-more (k .words) nothing)
     | is true w ↦ elim (see (classIn (keyOf P (k .words) s) (k .classes) 0)) [
-      | is (some c) p ↦ rw (w, keySteps, p, keyStep) (length-one (k .words) c)
-      | is none p ↦ rw (w, keySteps, p, keyStep) (length-one (k .words) (length (k .classes)))
+      | is (some c) p ↦ rw (w, keySteps, p, keyStep) (length-more (k .words) c)
+      | is none p ↦ rw (w, keySteps, p, keyStep) (length-more (k .words) (length (k .classes)))
     ]
   ]
 

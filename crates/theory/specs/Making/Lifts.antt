@@ -7,8 +7,8 @@ use native.Mathlib.Decide.{decLt}
 use lib.ListN.{length, getD}
 use Rattle.definition.specs.Pack.{Node, Pack, symbolOf, nodeOf}
 use Rattle.definition.specs.Tree.{Tree, Trees, tree, no-trees, tree-then, noTree, pick, trees, treeOf}
-use Rattle.definition.specs.Good.{Below, Arguments, Good, Few}
-use Rattle.definition.specs.Laws.Tree.{args-below, tree-node, length-grow}
+use Rattle.definition.specs.Good.{Below, Good, Few}
+use Rattle.definition.specs.Laws.Tree.{args-below, tree-node, length-grow, arguments-many}
 use Rattle.definition.specs.Store.{variableHead, intern}
 use Rattle.definition.specs.Analysis.{lift, liftAll}
 use Rattle.theory.specs.Patterns.Interned.{grows-none, grows-then, grows-long}
@@ -57,16 +57,9 @@ mutual
       record { patterns = R .patterns; inside = (omega (arith, F .inside, grows-long (first .store) (rest .store) (R .grows)), R .inside); grows = grows-then s (first .store) (rest .store) (F .grows) (R .grows) }
 
 -- ---- the trees of a pack are slim
--- as many arguments as sorts
-arguments-length : (P : Pack) (i : ℕ) (ss args : List ℕ) → Arguments P i ss args → length args ≡ length ss
-arguments-length P i [] [] a = refl
-arguments-length P i [] (x ∷ args) a = absurd a
-arguments-length P i (s ∷ ss) [] a = absurd a
-arguments-length P i (s ∷ ss) (x ∷ args) a = ap suc (arguments-length P i ss args (a .2))
-
 -- a ground node has few
 pub ground-few : (P : Pack) → Good P → (n : ℕ) → n < length (P .nodes) → length (nodeOf P n .args) ≤ 16
-ground-few P G n l = let N = G .nodes n l in omega (arith, arguments-length P n (symbolOf P (nodeOf P n .head) .inputs) (nodeOf P n .args) (N .args), G .symbols (nodeOf P n .head) (N .head) .arity)
+ground-few P G n l = let N = G .nodes n l in omega (arith, arguments-many P n (symbolOf P (nodeOf P n .head) .inputs) (nodeOf P n .args) (N .args), G .symbols (nodeOf P n .head) (N .head) .arity)
 
 pick-width : (ts : List Tree) (args : List ℕ) → width (pick ts args) ≡ length args
 unfolding width pick

@@ -15,7 +15,7 @@ use Rattle.definition.specs.Laws.Tree.{args-below}
 use Rattle.definition.specs.Verdict.{Bound, valueOf, provided, onwards}
 use Rattle.definition.specs.Graph.{Graph, vertex, root, isVar}
 use Rattle.definition.specs.Analysis.{pairing, valueAt, valued}
-use Rattle.definition.specs.Laws.Agreement.{onwards-same}
+use Rattle.definition.specs.Laws.Agreement.{onwards-same, onwards-some}
 
 -- ---- values and then more values
 -- going on with nothing changes nothing
@@ -82,12 +82,6 @@ unfolding provided
 provided-parts true o ws e = (refl, e)
 provided-parts false o ws e = never (cc)
 
--- what was gone on with
-onwards-parts : (o : Option (List Bound)) (f : List Bound → Option (List Bound)) (ws : List Bound) → onwards o f ≡ some ws → (us : List Bound) × (o ≡ some us) × (f us ≡ some ws)
-unfolding onwards
-onwards-parts none f ws e = never (cc)
-onwards-parts (some us) f ws e = (us, refl, e)
-
 some-eq : {us ws : List Bound} → some us ≡ some ws → us ≡ ws
 some-eq e = cc
 
@@ -119,7 +113,7 @@ module _ (P : Pack) (G : Good P) (g : Graph) where
   valued-grounded (suc d) [] (n ∷ ns) vs ws b h e = never (cc)
   valued-grounded (suc d) (x ∷ xs) [] vs ws b h e = never (cc)
   valued-grounded (suc d) (x ∷ xs) (n ∷ ns) vs ws b h e =
-      let q = onwards-parts (valueAt P g (λ ys ms us. valued d P g ys ms us) (root g x) n vs) (λ us. valued (suc d) P g xs ns us) ws e in
+      let q = onwards-some (valueAt P g (λ ys ms us. valued d P g ys ms us) (root g x) n vs) (λ us. valued (suc d) P g xs ns us) ws e in
       let us = q .0 in
       let i = root-grounded (λ ys ms us. valued d P g ys ms us) (λ ys ms us zs c k f. valued-grounded d ys ms us zs c k f) (root g x) n vs us (b .0) h (q .1) in
       valued-grounded (suc d) xs ns us ws (b .1) i (q .2)
