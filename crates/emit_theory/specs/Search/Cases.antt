@@ -1,13 +1,14 @@
 -- Nodes interned one by one, and case variables: each new variable has its line, its name and its sort.
 use mathlib.Core.Path.{_≡_, refl, sym, ap, _∙_, subst}
 use mathlib.Core.List.{List, [], _∷_, _++_, map}
+use mathlib.Core.Option.{none, some}
 use Prim.Native.Nat.{ℕ, suc, _+_, _-_, _<_}
 use native.Mathlib.Omega.{arith}
 use lib.ListN.{length, getD}
-use Rattle.definition.specs.Test.{is}
+use Rattle.definition.specs.Test.{is, see}
 use Rattle.definition.specs.Pack.{prop, Node, noNode, symbolOf}
 use Rattle.definition.specs.Good.{Below, Good, Few}
-use Rattle.definition.specs.Verdict.{Bound}
+use Rattle.definition.specs.Verdict.{Bound, valueOf}
 use Rattle.definition.specs.Store.{variableNode, intern}
 use Rattle.definition.specs.Analysis.{pairing}
 use Rattle.definition.specs.Run.{Run}
@@ -48,6 +49,16 @@ module _ (S : Setting) (few : Few (S .pack)) where
       let Q : ℕ → Emitter → Type 0 = λ p e₁. (e₁ .undone ≡ e .undone) × Of P (S .eigen) names (e₁ .kept .store) (symbolOf P h .output) p in
       now-comes S Q _ e s (then-comes S _ Q (grownTo (made .store)) _ e (grown-comes S e s (made .store) (I .1) (I .0))
       (λ _ e₁ g t z. gives S Q (made .number) e₁ t (z .1, subst (λ w. Of P (S .eigen) names w (symbolOf P h .output) (made .number)) (sym (z .0)) (I .2))))
+
+-- the next case variable has no name yet, so its entry may be taken back by making it none
+pub next-unnamed : (S : Setting) (e : Emitter) → Sound S e → (v sort : ℕ) → getD (e .kept .store) v noNode ≡ variableNode (caseNumber (tally (e .undone .lines) .variables)) sort → valueOf v (e .undone .names) ≡ none
+next-unnamed S e s v sort n = elim (see (valueOf v (e .undone .names))) [
+  | is none t ↦ t
+  | is (some k) t ↦
+      let N = s .names v k t in
+      let q : caseNumber k ≡ caseNumber (tally (e .undone .lines) .variables) = ap (λ (x : Node). getD (x .args) 0 0) (sym (N .node) ∙ n) in
+      absurd (omega (arith, N .there))
+]
 
 module _ (S : Setting) (good : Good (S .pack)) (few : Few (S .pack)) where
   -- ---- single nodes
