@@ -2,7 +2,6 @@
 pub mod Heads
 pub mod Behind
 pub mod Needed
-pub mod Meets
 pub mod Placed
 pub mod Lay
 pub mod Laid

@@ -9,7 +9,7 @@ use lib.ListN.{length}
 use Rattle.definition.specs.Test.{never, any}
 use Rattle.definition.specs.Pack.{prop, Pack, stepOf}
 use Rattle.definition.specs.Good.{Good, Few}
-use Rattle.definition.specs.Verdict.{Accepted, Bound, valueOf}
+use Rattle.definition.specs.Verdict.{Bound, valueOf}
 use Rattle.definition.specs.Graph.{Graph, variableVertex, vertex, push, root}
 use Rattle.definition.specs.Analysis.{copied}
 use Rattle.definition.specs.Keys.{predicateOf, isCut, neededBelow}
@@ -20,7 +20,7 @@ use Rattle.emission.specs.Choose.{choose}
 use Rattle.emission.specs.Derive.{Stated, Lines, Derived, usesOf, settled, raiseJudgment, stepLines, groundNodes, deriveGoal}
 use Rattle.theory.specs.Copies.Copying.{copied-is}
 use Rattle.theory.specs.Patterns.Interned.{grows-long}
-use Rattle.theory.specs.Keys.Needed.{Among, among-here, wanted-needed, needed-below}
+use Rattle.theory.specs.Keys.Needed.{Among, among-here, wanted-needed}
 use Rattle.emit_theory.specs.Graphs.{SortedGraph}
 use Rattle.emit_theory.specs.Graph.Kept.{Keeps, keeps-sort}
 use Rattle.emit_theory.specs.Graph.Push.{put-variable}
@@ -31,7 +31,6 @@ use Rattle.emit_theory.specs.Sound.{Told, Sound, Grew, grew-then, term-g
 use Rattle.emit_theory.specs.Comes.{Comes, gives, then-comes, weaker}
 use Rattle.emit_theory.specs.Goal.Heads.{Headed}
 use Rattle.emit_theory.specs.Goal.Needed.{StepMeets, needed-ready}
-use Rattle.emit_theory.specs.Goal.Meets.{accepted-meets}
 use Rattle.emit_theory.specs.Goal.Placed.{Shaped, AllPlaced, placed-kept, stepsOf, conclusion-placed, Own}
 use Rattle.emit_theory.specs.Goal.Lay.{From, celled-comes, unified-comes}
 use Rattle.emit_theory.specs.Goal.Laid.{Laying, Lays, steps-comes}
@@ -158,12 +157,6 @@ pub record Attemptable (P : Pack) (top : ℕ) : Type 0 where
   pub given : top < length (P .steps)
   pub uncut : isCut P (predicateOf P top) ≡ false
   pub meets : (s : ℕ) → Among s (neededBelow (length (P .steps)) P (top ∷ [])) → StepMeets P s
-
--- in an accepted pack each step that isn't cut is such a one
-pub accepted-attemptable : (P : Pack) → Good P → Few P → Accepted P → (top : ℕ) → top < length (P .steps) → isCut P (predicateOf P top) ≡ false → Attemptable P top
-accepted-attemptable P good few A top l c =
-    let n = length (P .steps) in
-    record { given = l; uncut = c; meets = λ s a. accepted-meets P good few A s (needed-below P n (top ∷ []) s a) }
 
 module _ (S : Setting) (good : Good (S .pack)) (few : Few (S .pack)) (cut : ProvesCut S) where
   -- an attempt at a goal, open or ground
