@@ -33,19 +33,19 @@ matchWords P (w ∷ ws) (n ∷ ns) bs =
     ]
 
 -- to go on twice
-onwards-twice : (m : Option (List Bound)) (f g : List Bound → Option (List Bound)) → onwards m (λ bs. onwards (f bs) g) ≡ onwards (onwards m f) g
+pub onwards-twice : (m : Option (List Bound)) (f g : List Bound → Option (List Bound)) → onwards m (λ bs. onwards (f bs) g) ≡ onwards (onwards m f) g
 unfolding onwards
 onwards-twice none f g = refl
 onwards-twice (some bs) f g = refl
 
 -- to stop there
-onwards-stop : (m : Option (List Bound)) → onwards m (λ bs. some bs) ≡ m
+pub onwards-stop : (m : Option (List Bound)) → onwards m (λ bs. some bs) ≡ m
 unfolding onwards
 onwards-stop none = refl
 onwards-stop (some bs) = refl
 
 -- a test ahead of going on
-provided-onwards : (t : Bool) (r m : Option (List Bound)) (g : List Bound → Option (List Bound)) → (t ≡ true → r ≡ onwards m g) → provided t r ≡ onwards (provided t m) g
+pub provided-onwards : (t : Bool) (r m : Option (List Bound)) (g : List Bound → Option (List Bound)) → (t ≡ true → r ≡ onwards m g) → provided t r ≡ onwards (provided t m) g
 unfolding provided onwards
 provided-onwards true r m g h = h refl
 provided-onwards false r m g h = refl
