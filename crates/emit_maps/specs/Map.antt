@@ -24,6 +24,10 @@ restorable = 4
 abbrev pub wordsEach : ℕ
 wordsEach = 9
 
+-- an entry of the trail is a word, which can name so many places
+abbrev pub placesNamed : ℕ
+placesNamed = 4294967296
+
 -- what a word says
 unfoldable pub told : ℕ → Option ℕ
 told zero = none
@@ -74,7 +78,7 @@ start m k = m .at + k * m .room
 -- the maps and the trail stand in work, and each place is a word
 pub record Laid (work : List ℕ) (m : Maps) : Type 0 where
   pub within : m .at + 9 * m .room ≤ length work
-  pub small : m .at + 9 * m .room ≤ 4294967296
+  pub small : m .at + wordsEach * m .room ≤ placesNamed
 
 -- they stay there
 pub laid-on : (work work′ : List ℕ) (m : Maps) → Laid work m → length work′ ≡ length work → Laid work′ m

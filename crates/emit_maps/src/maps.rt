@@ -2,7 +2,7 @@
 use buffer::zero::zero_words;
 ghost use mathlib.Core.Path.{_≡_};
 ghost use Prim.Native.Nat.{_+_, _*_, _<_, _≤_};
-ghost use Rattle.emit_maps.specs.Map.{start, Laid, manyMaps, wordsEach};
+ghost use Rattle.emit_maps.specs.Map.{start, Laid, manyMaps, placesNamed, wordsEach};
 ghost use Rattle.emit_maps.specs.Holds.{Looks, Begins};
 
 // Where the maps stand in work, one behind the other, and behind them the trail. A map's word is 0, or a number and one.
@@ -38,7 +38,7 @@ impl Maps {
 
 // Where the word of `p` stands in a map.
 pub fn place(m: Maps, map: usize, p: u32) -> usize
-    requires { ⌜ (map < manyMaps) × (p < m .room) × (m .at + wordsEach * m .room ≤ 4294967296) ⌝ }
+    requires { ⌜ (map < manyMaps) × (p < m .room) × (m .at + wordsEach * m .room ≤ placesNamed) ⌝ }
     ensures { λ r. ⌜ r ≡ start m map + p ⌝ }
 {
     m.at + map * m.room + p as usize
