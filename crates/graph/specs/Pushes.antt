@@ -10,7 +10,9 @@ use lib.Seq.{getD-set-same, getD-set-other}
 use Rattle.definition.specs.Store.{nothing, variableHead}
 use Rattle.definition.specs.Graph.{Vertex, Graph, variableVertex, applied, vertex, cells}
 use Rattle.base.specs.declared.id.Node.{Node}
-use Rattle.base.specs.Part.{part, put, length-put, part-put, put-before}
+use Rattle.base.specs.Part.{part, put, part-set-before}
+use Rattle.base.specs.Outside.{Outside}
+use Rattle.base.specs.Lent.{back, back-outside}
 use Rattle.theory.specs.Unification.Like.{Like, like-same, like-more, same-vertex}
 use Rattle.graph.specs.declared.graph.Graph.{Graph as Counts}
 use Rattle.graph.specs.declared.graph.Pushed.{Pushed}
@@ -184,24 +186,49 @@ var-pushed words table table′ s n n-is L h sort flex rigid R =
     node-more words table (set words (s .used) variableHead) table′ s L (length-set words (s .used) variableHead) (λ i l. getD-set-other words (s .used) i variableHead 0 (λ e. omega arith)) sort flex rigid (s .used + 1) R (omega arith) (omega arith) n n-is variableHead []
     (getD-set-same words (s .used) variableHead 0 h) (rw z)
 
--- the cells are as many as before
-pub pushed-long : (words args copied : List ℕ) (used head end : ℕ) → end ≡ used + 1 + length args → end ≤ length words → copied ≡ args → length (put (used + 1) (end - (used + 1)) copied (set words used head)) ≡ length words
-pushed-long words args copied used head end e h same =
-    let w : List ℕ = set words used head in
-    let lw : length w ≡ length words = length-set words used head in
-    length-put (used + 1) (end - (used + 1)) w (omega (arith, lw)) copied (ap length same ∙ omega arith) ∙ lw
+-- an application takes a cell for its head and one for each argument, which stand there up to `end`
+abbrev pub argumentsTo : List ℕ → Counts → ℕ → List ℕ
+argumentsTo words s end = part (s .used + 1) (end - (s .used + 1)) words
 
--- an application takes a cell for its head and one for each argument
-pub app-pushed : (words table table′ args copied : List ℕ) (s : Counts) (n : Node) → n .0 ≡ s .nodes → (head end : ℕ) → Laid words table s → end ≡ s .used + 1 + length args → end ≤ length words → copied ≡ args → Rows (put (s .used + 1) (end - (s .used + 1)) copied (set words (s .used) head)) table table′ s nothing 0 0 end
-    → Pushes words (put (s .used + 1) (end - (s .used + 1)) copied (set words (s .used) head)) table table′ s (applied head args) (At n (record { nodes = s .nodes + 1; used = end }))
-app-pushed words table table′ args copied s number number-is head end L e h same R =
-    let n : ℕ = end - (s .used + 1) in
-    let w : List ℕ = set words (s .used) head in
-    let lw : length w ≡ length words = length-set words (s .used) head in
-    let room : s .used + 1 + n ≤ length w = omega (arith, lw) in
-    let long : length copied ≡ n = ap length same ∙ omega arith in
-    node-more words table (put (s .used + 1) n copied w) table′ s L (pushed-long words args copied (s .used) head end e h same)
-    (λ i l. put-before (s .used + 1) n w room copied long i (omega arith) ∙ getD-set-other words (s .used) i head 0 (λ q. omega arith))
-    nothing 0 0 end R (omega arith) h number number-is head args
-    (put-before (s .used + 1) n w room copied long (s .used) (omega arith) ∙ getD-set-same words (s .used) head 0 (omega arith))
-    (part-put (s .used + 1) n w room copied long ∙ same)
+pub laid-pushed : (words table table′ : List ℕ) (s : Counts) (n : Node) → n .0 ≡ s .nodes → (head end : ℕ) → Laid words table s → s .used + 1 ≤ end → end ≤ length words → Rows (set words (s .used) head) table table′ s nothing 0 0 end
+    → Pushes words (set words (s .used) head) table table′ s (applied head (argumentsTo words s end)) (At n (record { nodes = s .nodes + 1; used = end }))
+laid-pushed words table table′ s n n-is head end L more h R =
+    node-more words table (set words (s .used) head) table′ s L (length-set words (s .used) head) (λ i l. getD-set-other words (s .used) i head 0 (λ e. omega arith)) nothing 0 0 end R more h n n-is head (argumentsTo words s end)
+    (getD-set-same words (s .used) head 0 (omega arith)) (part-set-before (s .used + 1) (end - (s .used + 1)) words (s .used) head (omega arith))
+
+-- ---- arguments were written there
+module _ (words table copied : List ℕ) (s : Counts) (end : ℕ) (L : Laid words table s) (more : s .used + 1 ≤ end) (fits : end ≤ length words) (long : length copied ≡ length (argumentsTo words s end)) where
+  abbrev filled : List ℕ
+  filled = put (s .used + 1) (end - (s .used + 1)) copied words
+
+  free : Outside (s .used + 1) end words filled
+  free = back-outside (s .used + 1) end words copied more fits long
+
+  pub filled-long : length filled ≡ length words
+  filled-long = free .long
+
+  -- the nodes stand as they did
+  pub filled-laid : Laid filled table s
+  filled-laid = record {
+    wide = omega (arith, L .wide, filled-long);
+    first = L .first;
+    rising = L .rising;
+    end = L .end;
+    fits = omega (arith, L .fits, filled-long);
+    small = omega (arith, L .small, filled-long);
+  }
+
+  filled-shows : (g : Graph) → Shows words table s g → Shows filled table s g
+  filled-shows g S =
+      let e = graph-kept words table filled table s L filled-long (λ i h. refl) (λ i h. refl) (λ i h. free .ahead i (omega arith)) (s .nodes) (omega arith) in
+      record { laid = filled-laid; like = subst (λ (h : Graph). Like h g) (sym e) (S .like) }
+
+  filled-more : (words′ table′ : List ℕ) (v : Vertex) (r : Pushed) → Pushes filled words′ table table′ s v r → Pushes words words′ table table′ s v r
+  filled-more words′ table′ v (At n s′) P = (λ g S. P .0 g (filled-shows g S), subst (λ (k : ℕ). Unchanged (5 * k + 5) table table′) filled-long (P .1))
+  filled-more words′ table′ v Short P = λ g S. omega (arith, filled-long, P g (filled-shows g S))
+
+  -- a node more over them
+  pub filled-pushed : (words′ table′ args : List ℕ) (head : ℕ) → copied ≡ args → (r : Pushed) → Pushes filled words′ table table′ s (applied head (argumentsTo filled s end)) r → Pushes words words′ table table′ s (applied head args) r
+  filled-pushed words′ table′ args head same r P =
+      let e : argumentsTo filled s end ≡ args = back (s .used + 1) end words copied more fits long ∙ same in
+      filled-more words′ table′ (applied head args) r (subst (λ (xs : List ℕ). Pushes filled words′ table table′ s (applied head xs) r) e P)

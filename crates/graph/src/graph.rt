@@ -5,14 +5,15 @@ use base::id::Node;
 use base::id::Pattern;
 ghost use mathlib.Core.Path.{_≡_};
 ghost use mathlib.Core.List.{[]};
-ghost use Prim.Native.Nat.{_+_, _*_, _≤_, _<_};
+ghost use Prim.Native.Nat.{_+_, _*_, _-_, _≤_, _<_};
+ghost use lib.Dec.{leb};
 ghost use lib.ListN.{length};
 ghost use Rattle.definition.specs.Graph.{variableVertex, applied};
 ghost use Rattle.graph.specs.Cells.{linkWord, markIn, rowsEnd, Laid, Shows, Unchanged};
 ghost use Rattle.graph.specs.Links.{Holds, Found};
 ghost use Rattle.graph.specs.Nodes.{RootOf};
 ghost use Rattle.graph.specs.Joins.{Apart, Joins, Shares, Binds, HeadOf};
-ghost use Rattle.graph.specs.Pushes.{Rows, Pushes};
+ghost use Rattle.graph.specs.Pushes.{Rows, Pushes, argumentsTo};
 ghost use Rattle.definition.specs.Store.{nothing};
 
 // How many nodes there are, and how many cells they take.
@@ -173,18 +174,21 @@ impl Graph {
         )
     }
 
-    // An application more.
-    pub fn push(self, cells: &mut [u32], table: &mut [u32], head: u32, args: &[u32]) -> Pushed
-        requires { ⌜ Laid (now cells) (now table) self ⌝ }
-        ensures { λ r. ⌜ Pushes (now (cells .entry)) (now (cells .exit)) (now (table .entry)) (now (table .exit)) self (applied head (now (args .entry))) r ⌝ }
+    // Whether there is no room behind the last node for one of `n` arguments.
+    pub fn lacks_room(self, cells: &[u32], n: usize) -> bool
+        requires { ⌜ self .used ≤ length (now cells) ⌝ }
+        ensures { λ r. ⌜ r ≡ leb (length (now (cells .entry)) - self .used) n ⌝ }
+    {
+        cells.len() - self.used <= n
+    }
+
+    // An application more, whose arguments stand behind the place of its head, up to `end`.
+    pub fn push_laid(self, cells: &mut [u32], table: &mut [u32], head: u32, end: usize) -> Pushed
+        requires { ⌜ Laid (now cells) (now table) self × (self .used + 1 ≤ end) × (end ≤ length (now cells)) ⌝ }
+        ensures { λ r. ⌜ Pushes (now (cells .entry)) (now (cells .exit)) (now (table .entry)) (now (table .exit)) self (applied head (argumentsTo (now (cells .entry)) self end)) r ⌝ }
     {
         let at = self.used;
-        if cells.len() - at <= args.len() {
-            return Pushed::Short;
-        }
-        let end = at + 1 + args.len();
         cells[at] = head;
-        copy_words(args, &mut cells[at + 1..end]);
         self.put_row(cells, table, Ground::NONE, 0, 0, end);
         let n = self.nodes;
         Pushed::At(
@@ -194,5 +198,19 @@ impl Graph {
                 used: end,
             },
         )
+    }
+
+    // An application more.
+    pub fn push(self, cells: &mut [u32], table: &mut [u32], head: u32, args: &[u32]) -> Pushed
+        requires { ⌜ Laid (now cells) (now table) self ⌝ }
+        ensures { λ r. ⌜ Pushes (now (cells .entry)) (now (cells .exit)) (now (table .entry)) (now (table .exit)) self (applied head (now (args .entry))) r ⌝ }
+    {
+        if self.lacks_room(cells, args.len()) {
+            return Pushed::Short;
+        }
+        let first = self.used + 1;
+        let end = first + args.len();
+        copy_words(args, &mut cells[first..end]);
+        self.push_laid(cells, table, head, end)
     }
 }

@@ -1,9 +1,10 @@
 -- What the functions of the walk ask of each other and answer.
 use mathlib.Core.Path.{_≡_}
-use mathlib.Core.Bool.{Bool, true, false}
+use mathlib.Core.Bool.{Bool}
 use mathlib.Core.List.{List}
 use mathlib.Core.Option.{none, some}
-use Prim.Native.Nat.{ℕ, suc, _+_, _≤_, _<_}
+use Prim.Native.Nat.{ℕ, suc, _+_, _<_}
+use lib.Dec.{ltb}
 use lib.ListN.{length, getD, set}
 use Rattle.definition.specs.Store.{below}
 use Rattle.definition.specs.Graph.{cells}
@@ -26,18 +27,19 @@ use Rattle.theory.specs.Copies.Terms.{Patterns}
 use Rattle.graph.specs.Cells.{marksIn}
 use Rattle.term_copy.specs.Held.{Holding, framesIn, Going}
 
--- the frame at `at`, and room above it if an argument is left to it
-pub record Deeper (work : List ℕ) (at : ℕ) (key : List ℕ) : Type 0 where
-  pub some : 0 < length key
-  pub inside : at + 1 < length work
-  pub room : getD work (at + 1) 0 < length (below (nodeWith key)) → (at + 3 < length work) × (getD work (at + 1) 0 < 16) × (getD work (at + 1) 0 + 1 < length key)
+-- whether an argument of the node with a key is left to the frame at `at`
+abbrev pub isLeft : List ℕ → ℕ → List ℕ → Bool
+isLeft work at key = ltb (getD work (at + 1) 0) (length (below (nodeWith key)))
 
--- whether one was left: then it is counted and has a frame above
-abbrev pub Deepens : List ℕ → List ℕ → ℕ → List ℕ → Bool → Type 0
-Deepens work work′ at key true =
-    (getD work (at + 1) 0 < length (below (nodeWith key)))
-    × (work′ ≡ set (set (set work (at + 1) (getD work (at + 1) 0 + 1)) (at + 2) (getD key (getD work (at + 1) 0 + 1) 0)) (at + 3) 0)
-Deepens work work′ at key false = (length (below (nodeWith key)) ≤ getD work (at + 1) 0) × (work′ ≡ work)
+-- its word stands in the key, and there is room above the frame
+pub record Deeper (work : List ℕ) (at : ℕ) (key : List ℕ) : Type 0 where
+  pub inside : at + 3 < length work
+  pub few : getD work (at + 1) 0 < 16
+  pub word : getD work (at + 1) 0 + 1 < length key
+
+-- it is counted and has a frame above
+abbrev pub deepened : List ℕ → ℕ → List ℕ → List ℕ
+deepened work at key = set (set (set work (at + 1) (getD work (at + 1) 0 + 1)) (at + 2) (getD key (getD work (at + 1) 0 + 1) 0)) (at + 3) 0
 
 -- one turn of the machine
 abbrev pub turnOf : List ℕ → List ℕ → List ℕ → Copying → Store → ℕ → Copy → Walking Copy

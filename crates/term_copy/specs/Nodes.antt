@@ -6,7 +6,7 @@ use mathlib.Core.Option.{some}
 use Prim.Native.Nat.{ℕ, _+_, _-_, _≤_, _<_}
 use native.Mathlib.Omega.{arith}
 use borrow.Author.Tests.{eq-eqb, ne-eqb}
-use lib.ListN.{length, getD, set, take, drop}
+use lib.ListN.{length, getD, set, drop}
 use Rattle.definition.specs.Store.{variableHead, nothing}
 use Rattle.definition.specs.Graph.{Vertex, variableVertex, applied}
 use Rattle.base.specs.Part.{put}
@@ -17,7 +17,7 @@ use Rattle.memo.specs.declared.memo.Memo.{Memo}
 use Rattle.graph.specs.Cells.{markIn, nodes-few}
 use Rattle.graph.specs.Links.{Holds}
 use Rattle.graph.specs.Inner.{many-nodes}
-use Rattle.graph.specs.Pushes.{Pushes}
+use Rattle.graph.specs.Pushes.{Pushes, argumentsTo, filled-pushed}
 use Rattle.graph.specs.declared.graph.Pushed.{Pushed}
 use Rattle.graph.specs.declared.graph.Pushed.the-variants.{At, Short}
 use Rattle.base.specs.declared.id.Node.{Node}
@@ -48,13 +48,13 @@ pub variable-made : (work cells cells′ flex table′ : List ℕ) (l : Copying)
 variable-made work cells cells′ flex table′ l g fits long sort k mark m r P =
     grows work cells table′ l fits long cells′ g (variableVertex sort (markAt flex k) (markIn 0)) r (subst (λ (b : Bool). Pushes cells cells′ (rowsIn work cells l) table′ g (variableVertex sort b (markIn 0)) r) m P)
 
--- an application's copy, over its arguments as they are lent
-pub application-made : (work cells cells′ table′ : List ℕ) (l : Copying) (g : Counts) → rowsAt cells l ≤ length work → length table′ ≡ length (rowsIn work cells l) → (head n : ℕ) (args ys : List ℕ) → take n args ≡ ys → (r : Pushed)
-    → Pushes cells cells′ (rowsIn work cells l) table′ g (applied head (take (n - 0) (drop 0 args))) r → Grows work (put (l .graph) (rowsAt cells l - l .graph) table′ work) cells cells′ l g (applied head ys) r
-application-made work cells cells′ table′ l g fits long head n args ys e r P =
-    let z : n - 0 ≡ n = omega arith in
-    let f : take (n - 0) (drop 0 args) ≡ ys = ap (λ (k : ℕ). take k args) z ∙ e in
-    grows work cells table′ l fits long cells′ g (applied head ys) r (subst (λ (zs : List ℕ). Pushes cells cells′ (rowsIn work cells l) table′ g (applied head zs) r) f P)
+-- an application's copy, over its arguments as they were gathered behind the place of its head
+module _ (work cells : List ℕ) (l : Copying) (g : Counts) (H : Holds cells (rowsIn work cells l) g) (fits : rowsAt cells l ≤ length work) (copied : List ℕ) (end : ℕ) (more : g .used + 1 ≤ end) (within : end ≤ length cells) (many : length copied ≡ length (argumentsTo cells g end)) where
+  pub application-made : (cells′ table′ : List ℕ) → length table′ ≡ length (rowsIn work cells l) → (head : ℕ) (args : List ℕ) → copied ≡ args → (r : Pushed)
+      → Pushes (put (g .used + 1) (end - (g .used + 1)) copied cells) cells′ (rowsIn work cells l) table′ g (applied head (argumentsTo (put (g .used + 1) (end - (g .used + 1)) copied cells) g end)) r
+      → Grows work (put (l .graph) (rowsAt cells l - l .graph) table′ work) cells cells′ l g (applied head args) r
+  application-made cells′ table′ long head args e r P =
+      grows work cells table′ l fits long cells′ g (applied head args) r (filled-pushed cells (rowsIn work cells l) copied g end (H .1 .laid) more within many cells′ table′ args head e r P)
 
 -- a node's copy is the one or the other
 module _ (work work′ cells cells′ flex : List ℕ) (l : Copying) (memo : Memo) (g : Counts) (key : List ℕ) (r : Pushed) where

@@ -6,6 +6,7 @@ use mathlib.Core.Option.{some}
 use Prim.Native.Nat.{ℕ, suc, _+_, _*_, _≤_, _<_}
 use native.Mathlib.Numerals.{add-one}
 use native.Mathlib.Omega.{arith}
+use borrow.Author.Tests.{ltb-true, ltb-false}
 use lib.Dec.{eqb}
 use lib.ListN.{length, getD}
 use Rattle.definition.specs.Test.{is, see, _and_}
@@ -34,7 +35,7 @@ use Rattle.term_copy.specs.Places.{tableIn, rowsAt, rowsIn, Apart, value
 use Rattle.graph.specs.Cells.{marksIn}
 use Rattle.term_copy.specs.Held.{framesIn, Ready}
 use Rattle.term_copy.specs.Steps.{CopiesNode, Key}
-use Rattle.term_copy.specs.Frames.{Deeper, Deepens, Advances}
+use Rattle.term_copy.specs.Frames.{isLeft, Deeper, deepened, Advances}
 use Rattle.term_copy.specs.Grown.{holding-stack, short-more, holding-more}
 use Rattle.term_copy.specs.Turns.{turn-inside, turn-known, turn-key, frames-same, entering, entering-outside, entering-frames, turn-room, turn-given, going-on, dropped, entered, finished, entered-room, all-known}
 use Rattle.graph.specs.declared.graph.Graph.{Graph as Counts}
@@ -143,48 +144,40 @@ module _ (work words cells₀ flex : List ℕ) (l : Copying) (st : Store) (memo 
           )
 
     -- what looking for one asks
-    pub ready-deeper : Deeper work at key
-    ready-deeper = record { some = omega (arith, ap length K); inside = ready-inside R; room = λ h. (enter-inside h, taken-few h, taken-key h) }
+    pub ready-look : (at + 1 < length work) × (0 < length key)
+    ready-look = (ready-inside R, omega (arith, ap length K))
 
-    -- its next argument gets a frame
-    module _ (work₁ : List ℕ) (d : Bool) (D : Deepens work work₁ at key d) where
-      -- the count of frames is a number still
-      pub advance-room : d ≡ true → top + 2 < length work
-      advance-room t = let D₁ = subst (λ (o : Bool). Deepens work work₁ at key o) t D in omega (arith, enter-inside (D₁ .0))
+    -- one is left, or none
+    module _ (d : Bool) (D : d ≡ isLeft work at key) where
+      -- an argument is left
+      module _ (t : d ≡ true) where
+        -- by the numbers
+        some-left : taken < length (below (nodeWith key))
+        some-left = ltb-true taken (length (below (nodeWith key))) (sym D ∙ t)
 
-      -- that is a turn
-      pub advance-entered : d ≡ true → Advances work work₁ words cells₀ cells₀ flex l st memo g top (turns.On (top + 2) g)
-      advance-entered t =
-          let D₁ = subst (λ (o : Bool). Deepens work work₁ at key o) t D in
-          subst (λ (xs : List ℕ). Advances work xs words cells₀ cells₀ flex l st memo g top (turns.On (top + 2) g)) (sym (D₁ .1)) (advance-entering (D₁ .0))
+        -- what its frame asks
+        pub ready-deeper : Deeper work at key
+        ready-deeper = record { inside = enter-inside some-left; few = taken-few some-left; word = taken-key some-left }
 
-      -- no argument is left: nothing was written
+        -- that is a turn
+        pub advance-entered : (work₁ : List ℕ) → work₁ ≡ deepened work at key → Advances work work₁ words cells₀ cells₀ flex l st memo g top (turns.On (top + 2) g)
+        advance-entered work₁ e₁ = subst (λ (xs : List ℕ). Advances work xs words cells₀ cells₀ flex l st memo g top (turns.On (top + 2) g)) (sym e₁) (advance-entering some-left)
+
+      -- no argument is left
       module _ (u : d ≡ false) where
-        -- what was answered
-        D₂ : Deepens work work₁ at key false
-        D₂ = subst (λ (o : Bool). Deepens work work₁ at key o) u D
-
         -- all were taken
         none-left : length (kidsIn s p) ≤ taken
-        none-left = omega (arith, kids-are, D₂ .0)
+        none-left = omega (arith, kids-are, ltb-false taken (length (below (nodeWith key))) (sym D ∙ u))
 
         -- what copying its pattern asks
-        abbrev Ripe : List ℕ → Type 0
-        Ripe xs = Apart xs cells₀ flex l × Holds cells₀ (rowsIn xs cells₀ l) g × Key xs l memo key × Remembers (tableIn xs l) memo × (p < length (recall (tableIn xs l) memo))
-
-        -- it is given
-        pub ready-ripe : Ripe work₁
-        ready-ripe =
-            let H = R .2 .holds in
-            subst Ripe (sym (D₂ .1)) (H .apart, (R .1 .graph, H .shows), ready-key R key K, H .remembers, ready-known R)
+        pub ready-ripe : Apart work cells₀ flex l × Holds cells₀ (rowsIn work cells₀ l) g × Key work l memo key × Remembers (tableIn work l) memo × (p < length (recall (tableIn work l) memo))
+        ready-ripe = let H = R .2 .holds in (H .apart, (R .1 .graph, H .shows), ready-key R key K, H .remembers, ready-known R)
 
         -- its pattern's copy is made: that is a turn, too
-        module _ (work′ cells′ : List ℕ) (long : length cells′ ≡ length cells₀) (r : Pushed) (C : CopiesNode work₁ work′ cells₀ cells′ flex l memo g p key r) where
+        module _ (work′ cells′ : List ℕ) (long : length cells′ ≡ length cells₀) (r : Pushed) (C : CopiesNode work work′ cells₀ cells′ flex l memo g p key r) where
           -- what was answered
           made : (q : Pushed) → r ≡ q → CopiesNode work work′ cells₀ cells′ flex l memo g p (keyOf n) q
-          made q h =
-              let D = subst (λ (o : Pushed). CopiesNode work₁ work′ cells₀ cells′ flex l memo g p key o) h C in
-              subst (λ (xs : List ℕ). CopiesNode work work′ cells₀ cells′ flex l memo g p xs q) K (subst (λ (xs : List ℕ). CopiesNode xs work′ cells₀ cells′ flex l memo g p key q) (D₂ .1) D)
+          made q h = subst (λ (xs : List ℕ). CopiesNode work work′ cells₀ cells′ flex l memo g p xs q) K (subst (λ (o : Pushed). CopiesNode work work′ cells₀ cells′ flex l memo g p key o) h C)
 
           -- there was room
           pub advance-copied : (x : Id) (g′ : Counts) → r ≡ pushed.At x g′ → Advances work work′ words cells₀ cells′ flex l st memo g top (turns.On top g′)

@@ -45,10 +45,9 @@ gather-more f key args i v h k e t =
     ap (λ (j : ℕ). take (i + 1) (set args i j)) w ∙ take-copied i ys args (omega (arith, m)) k t
 
 -- all of them
-pub gather-all : (f : ℕ → ℕ) (key args : List ℕ) (i : ℕ) → length key - 1 ≤ i → i ≤ length key - 1 → take i args ≡ take i (map f (drop 1 key)) → take (length key - 1) args ≡ map f (drop 1 key)
-gather-all f key args i h k t =
-    let e : length key - 1 ≡ i = omega arith in
-    ap (λ (j : ℕ). take j args) e ∙ t ∙ take-all i (map f (drop 1 key)) (omega (arith, length-map (drop 1 key) f, length-drop 1 key))
+pub gather-all : (f : ℕ → ℕ) (key args : List ℕ) (i : ℕ) → length args ≡ length key - 1 → length args ≤ i → i ≤ length args → take i args ≡ take i (map f (drop 1 key)) → args ≡ map f (drop 1 key)
+gather-all f key args i n h k t =
+    sym (take-all i args h) ∙ t ∙ take-all i (map f (drop 1 key)) (omega (arith, length-map (drop 1 key) f, length-drop 1 key))
 
 -- an argument of a key
 pub argument-below : (n : ℕ) (key : List ℕ) (i : ℕ) → Below n (drop 1 key) → i + 1 < length key → getD key (i + 1) 0 < n

@@ -16,14 +16,12 @@ ghost use Prim.Native.Nat.{suc, _+_, _-_, _*_, _≤_, _<_};
 ghost use lib.Dec.{eqb};
 ghost use lib.ListN.{length, getD};
 ghost use Rattle.definition.specs.Test.{_and_};
-ghost use Rattle.definition.specs.Store.{below};
 ghost use Rattle.definition.specs.Classes.{isSome};
-ghost use Rattle.store.specs.Words.{nodeWith};
 ghost use Rattle.store.specs.Stored.{nodes};
 ghost use Rattle.memo.specs.Recall.{recall, Remembers};
 ghost use Rattle.term_copy.specs.Places.{tableIn, valueIn};
 ghost use Rattle.term_copy.specs.Held.{Ready, Given, Copies};
-ghost use Rattle.term_copy.specs.Frames.{Deeper, Deepens, Advances, Runs, Begins};
+ghost use Rattle.term_copy.specs.Frames.{Deeper, isLeft, deepened, Advances, Runs, Begins};
 
 // The node that the pattern was copied to, the graph with it and the memo as it is then; or that the cells have no room.
 pub enum Copied {
@@ -54,30 +52,26 @@ fn passes(work: &[u32], l: Copying, memo: Memo, at: usize) -> bool
     }
 }
 
-// How many pattern nodes stand below the node with a key.
-fn kids(key: &[u32]) -> usize
-    requires { ⌜ 0 < length (now key) ⌝ }
-    ensures { λ r. ⌜ r ≡ length (below (nodeWith (now (key .entry)))) ⌝ }
+// Whether an argument of the node with a key is left to the frame at `at`.
+fn is_left(work: &[u32], at: usize, key: &[u32]) -> bool
+    requires { ⌜ (at + 1 < length (now work)) × (0 < length (now key)) ⌝ }
+    ensures { λ r. ⌜ r ≡ isLeft (now (work .entry)) at (now (key .entry)) ⌝ }
 {
     if key[0] == Pattern::VAR {
-        return 0;
-    }
-    key.len() - 1
-}
-
-// Whether an argument of the node with a key is left to the frame at `at`: then it takes one more, which gets a frame above it.
-fn deepen(work: &mut [u32], at: usize, key: &[u32]) -> bool
-    requires { ⌜ Deeper (now work) at (now key) ⌝ }
-    ensures { λ r. ⌜ Deepens (now (work .entry)) (now (work .exit)) at (now (key .entry)) r ⌝ }
-{
-    let taken = work[at + Frame::TAKEN];
-    if kids(key) <= taken as usize {
         return false;
     }
+    (work[at + Frame::TAKEN] as usize) < key.len() - 1
+}
+
+// The frame at `at` takes one more argument of the node with a key, which gets a frame above it.
+fn deepen(work: &mut [u32], at: usize, key: &[u32])
+    requires { ⌜ Deeper (now work) at (now key) ⌝ }
+    ensures { λ _. ⌜ now (work .exit) ≡ deepened (now (work .entry)) at (now (key .entry)) ⌝ }
+{
+    let taken = work[at + Frame::TAKEN];
     work[at + Frame::TAKEN] = taken + 1;
     work[at + Frame::WORDS] = key[taken as usize + 1];
     work[at + Frame::NEXT_TAKEN] = 0;
-    true
 }
 
 // One turn on the frame above `top` others: it is dropped if its pattern was copied; or its next argument gets a frame; or its pattern
@@ -104,7 +98,8 @@ fn advance(
     let from = l.index;
     let to = l.copied;
     let key = st.node(&work[from..to], words, p);
-    if deepen(work, at, key) {
+    if is_left(work, at, key) {
+        deepen(work, at, key);
         return Turn::On(top + 2, g);
     }
     match copy_node(work, cells, l, memo, g, flex, p, key) {

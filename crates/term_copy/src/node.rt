@@ -1,7 +1,6 @@
 // The copy of one pattern node: a variable with its mark, an application over the copies of its arguments.
 use base::id::Node;
 use base::id::Pattern;
-use base::limit::Limit;
 use graph::graph::Graph;
 use graph::graph::Pushed;
 use graph::places::pairs_at;
@@ -10,7 +9,7 @@ use memo::memo::Memo;
 ghost use mathlib.Core.Path.{_≡_};
 ghost use mathlib.Core.List.{map};
 ghost use Prim.Native.Nat.{_+_, _-_, _*_, _≤_, _<_};
-ghost use lib.ListN.{length, getD, take, drop};
+ghost use lib.ListN.{length, getD, drop};
 ghost use Rattle.definition.specs.Store.{variableHead, nothing};
 ghost use Rattle.definition.specs.Graph.{variableVertex, applied};
 ghost use Rattle.base.specs.Outside.{Outside};
@@ -19,7 +18,6 @@ ghost use Rattle.graph.specs.Cells.{markIn};
 ghost use Rattle.graph.specs.Links.{Holds};
 ghost use Rattle.term_copy.specs.Places.{tableIn, rowsIn, copyIn, Apart};
 ghost use Rattle.term_copy.specs.Steps.{markAt, Arguments, Key, Notes, Grows, vertexFor, numberFor, CopiesNode};
-ghost use Rattle.definition.specs.Pack.{mostArity};
 ghost use Rattle.graph.specs.Places.{pairsAt};
 
 // Where copying has its tables in work: the store's index; what pattern nodes were copied to, a memo of two words each; the walk's
@@ -48,12 +46,11 @@ pub fn copy_of(work: &[u32], l: Copying, memo: Memo, q: Pattern) -> Node
 
 // The copies of a key's arguments.
 fn gather(work: &[u32], l: Copying, memo: Memo, key: &[u32], args: &mut [u32])
-    requires { ⌜ (l .copied ≤ l .walk) × (l .walk ≤ length (now work)) × Arguments (now work) l memo (now key) × (length (now args) ≡ mostArity) ⌝ }
-    ensures { λ _. ⌜ take (length (now (key .entry)) - 1) (now (args .exit)) ≡ map (copyIn (now (work .entry)) l memo) (drop 1 (now (key .entry))) ⌝ }
+    requires { ⌜ (l .copied ≤ l .walk) × (l .walk ≤ length (now work)) × Arguments (now work) l memo (now key) × (length (now args) ≡ length (now key) - 1) ⌝ }
+    ensures { λ _. ⌜ now (args .exit) ≡ map (copyIn (now (work .entry)) l memo) (drop 1 (now (key .entry))) ⌝ }
 {
-    let n = key.len() - 1;
     let mut i: usize = 0;
-    while i < n {
+    while i < args.len() {
         args[i] = copy_of(work, l, memo, Pattern(key[i + 1])).0;
         i += 1;
     }
@@ -116,12 +113,16 @@ fn copy_application(
     requires { ⌜ (l .copied ≤ l .walk) × (l .walk ≤ l .graph) × (l .graph + pairsAt (length (now cells)) ≤ length (now work)) × Holds (now cells) (rowsIn (now work) (now cells) l) g × Arguments (now work) l memo (now key) ⌝ }
     ensures { λ r. ⌜ Grows (now (work .entry)) (now (work .exit)) (now (cells .entry)) (now (cells .exit)) l g (applied (getD (now (key .entry)) 0 0) (map (copyIn (now (work .entry)) l memo) (drop 1 (now (key .entry))))) r ⌝ }
 {
-    let mut args = [0; Limit::ARITY];
-    gather(work, l, memo, key, &mut args);
     let n = key.len() - 1;
+    if g.lacks_room(cells, n) {
+        return Pushed::Short;
+    }
     let from = l.graph;
     let to = from + pairs_at(cells);
-    g.push(cells, &mut work[from..to], key[0], &args[0..n])
+    let first = g.used + 1;
+    let end = first + n;
+    gather(work, l, memo, key, &mut cells[first..end]);
+    g.push_laid(cells, &mut work[from..to], key[0], end)
 }
 
 // A copy of the node with a key.

@@ -1,7 +1,6 @@
 -- `advance` meets its contract.
 use borrow.Author.Needs.{needs}
-use mathlib.Core.Path.{_∙_}
-use Rattle.term_copy.specs.Ways.{ready-inside, ready-given, ready-known, ready-deeper, ready-ripe, advance-passed, advance-room, advance-entered, advance-copied, advance-short}
+use Rattle.term_copy.specs.Ways.{ready-inside, ready-given, ready-known, ready-look, ready-deeper, ready-ripe, advance-passed, advance-entered, advance-copied, advance-short}
 use Rattle.base.specs.Part.{part}
 use native.Mathlib.Omega.{arith}
 use Rattle.term_copy.proofs.copy.advance.Statement.{statement}
@@ -32,52 +31,42 @@ node-requires : tie.Need-node-requires
 unfolding part
 node-requires c κs = let R = c .before .before .before .before .before .before .before .before .before .before .before .pre in (R .2 .holds .stored, ready-given _ _ _ _ _ _ _ _ _ R)
 
+is-left-requires : tie.Need-is-left-requires
+is-left-requires c κs =
+    let a = c .before .before .before .before .before .before .before .before .before .before .before .before .before .args in
+    ready-look (a .work .now) (a .words .now) (a .cells .now) (a .flex .now) (a .l) (a .st) (a .memo) (a .g) (a .top) (c .before .before .before .before .before .before .before .before .before .before .before .before .before .pre) (c .before .before .before .before .before .before .passes .result) (c .before .before .before .before .before .before .passes .ensures) (c .before .before .before .before .before .if1 .left) _ (c .before .node .ensures)
+
 deepen-requires : tie.Need-deepen-requires
 deepen-requires c κs =
-    let a = c .before .before .before .before .before .before .before .before .before .before .before .before .before .args in
-    ready-deeper (a .work .now) (a .words .now) (a .cells .now) (a .flex .now) (a .l) (a .st) (a .memo) (a .g) (a .top) (c .before .before .before .before .before .before .before .before .before .before .before .before .before .pre) (c .before .before .before .before .before .before .passes .result) (c .before .before .before .before .before .before .passes .ensures) (c .before .before .before .before .before .if1 .left) _ (c .before .node .ensures)
+    let a = c .before .before .before .before .before .before .before .before .before .before .before .before .before .before .before .before .args in
+    ready-deeper (a .work .now) (a .words .now) (a .cells .now) (a .flex .now) (a .l) (a .st) (a .memo) (a .g) (a .top) (c .before .before .before .before .before .before .before .before .before .before .before .before .before .before .before .before .pre) (c .before .before .before .before .before .before .before .before .before .passes .result) (c .before .before .before .before .before .before .before .before .before .passes .ensures) (c .before .before .before .before .before .before .before .before .if1 .left) _ (c .before .before .before .before .node .ensures) (c .before .before .is-left .result) (c .before .before .is-left .ensures) (c .before .if2 .taken)
 
-add-t29 : tie.Need-add-t29
-add-t29 c =
-    let a = c .before .before .before .before .before .before .before .before .before .before .before .before .before .before .before .before .before .args in
-    omega (arith, advance-room (a .work .now) (a .words .now) (a .cells .now) (a .flex .now) (a .l) (a .st) (a .memo) (a .g) (a .top) (c .before .before .before .before .before .before .before .before .before .before .before .before .before .before .before .before .before .pre) (c .before .before .before .before .before .before .before .before .before .before .passes .result) (c .before .before .before .before .before .before .before .before .before .before .passes .ensures) (c .before .before .before .before .before .before .before .before .before .if1 .left) _ (c .before .before .before .before .before .node .ensures) (c .before .before .before .deepen .last .0) (c .before .before .before .deepen .result) (c .before .before .before .deepen .ensures) (c .if2 .taken))
-
-same-length-2 : tie.Need-same-length-2
-same-length-2 c = c .before .before .before .deepen .kept .0
+add-t32 : tie.Need-add-t32
+add-t32 c =
+    let a = c .before .before .before .before .before .before .before .before .before .before .before .before .before .before .before .before .before .before .before .args in
+    omega (arith, ready-deeper (a .work .now) (a .words .now) (a .cells .now) (a .flex .now) (a .l) (a .st) (a .memo) (a .g) (a .top) (c .before .before .before .before .before .before .before .before .before .before .before .before .before .before .before .before .before .before .before .pre) (c .before .before .before .before .before .before .before .before .before .before .before .before .passes .result) (c .before .before .before .before .before .before .before .before .before .before .before .before .passes .ensures) (c .before .before .before .before .before .before .before .before .before .before .before .if1 .left) _ (c .before .before .before .before .before .before .before .node .ensures) (c .before .before .before .before .before .is-left .result) (c .before .before .before .before .before .is-left .ensures) (c .before .before .before .before .if2 .taken) .inside)
 
 returns-2 : tie.Need-returns-2
 returns-2 c =
-    let a = c .before .before .before .before .before .before .before .before .before .before .before .before .before .before .before .before .before .args in
-    advance-entered (a .work .now) (a .words .now) (a .cells .now) (a .flex .now) (a .l) (a .st) (a .memo) (a .g) (a .top) (c .before .before .before .before .before .before .before .before .before .before .before .before .before .before .before .before .before .pre) (c .before .before .before .before .before .before .before .before .before .before .passes .result) (c .before .before .before .before .before .before .before .before .before .before .passes .ensures) (c .before .before .before .before .before .before .before .before .before .if1 .left) _ (c .before .before .before .before .before .node .ensures) (c .before .before .before .deepen .last .0) (c .before .before .before .deepen .result) (c .before .before .before .deepen .ensures) (c .if2 .taken)
+    let a = c .before .before .before .before .before .before .before .before .before .before .before .before .before .before .before .before .before .before .before .args in
+    advance-entered (a .work .now) (a .words .now) (a .cells .now) (a .flex .now) (a .l) (a .st) (a .memo) (a .g) (a .top) (c .before .before .before .before .before .before .before .before .before .before .before .before .before .before .before .before .before .before .before .pre) (c .before .before .before .before .before .before .before .before .before .before .before .before .passes .result) (c .before .before .before .before .before .before .before .before .before .before .before .before .passes .ensures) (c .before .before .before .before .before .before .before .before .before .before .before .if1 .left) _ (c .before .before .before .before .before .before .before .node .ensures) (c .before .before .before .before .before .is-left .result) (c .before .before .before .before .before .is-left .ensures) (c .before .before .before .before .if2 .taken) (c .before .before .deepen .last .0) (c .before .before .deepen .ensures)
 
 copy-node-requires : tie.Need-copy-node-requires
 copy-node-requires c κs =
-    let a = c .before .before .before .before .before .before .before .before .before .before .before .before .before .before .before .before .before .before .before .args in
-    ready-ripe (a .work .now) (a .words .now) (a .cells .now) (a .flex .now) (a .l) (a .st) (a .memo) (a .g) (a .top) (c .before .before .before .before .before .before .before .before .before .before .before .before .before .before .before .before .before .before .before .pre) (c .before .before .before .before .before .before .before .before .before .before .before .before .passes .result) (c .before .before .before .before .before .before .before .before .before .before .before .before .passes .ensures) (c .before .before .before .before .before .before .before .before .before .before .before .if1 .left) _ (c .before .before .before .before .before .before .before .node .ensures) (c .before .before .before .before .before .deepen .last .0) (c .before .before .before .before .before .deepen .result) (c .before .before .before .before .before .deepen .ensures) (c .before .before .if2 .left)
-
-same-length-3 : tie.Need-same-length-3
-same-length-3 c = c .before .before .before .before .before .before .before .copy-node .kept .0 ∙ c .before .before .before .before .before .before .before .before .before .before .before .before .before .deepen .kept .0
-
-same-length-4 : tie.Need-same-length-4
-same-length-4 c = c .before .before .before .before .before .before .before .copy-node .kept .1 .0
+    let a = c .before .before .before .before .before .before .before .before .before .before .before .before .before .before .before .before .before .args in
+    ready-ripe (a .work .now) (a .words .now) (a .cells .now) (a .flex .now) (a .l) (a .st) (a .memo) (a .g) (a .top) (c .before .before .before .before .before .before .before .before .before .before .before .before .before .before .before .before .before .pre) (c .before .before .before .before .before .before .before .before .before .before .passes .result) (c .before .before .before .before .before .before .before .before .before .before .passes .ensures) (c .before .before .before .before .before .before .before .before .before .if1 .left) _ (c .before .before .before .before .before .node .ensures) (c .before .before .before .is-left .result) (c .before .before .before .is-left .ensures) (c .before .before .if2 .left)
 
 returns-3 : tie.Need-returns-3
 returns-3 c =
-    let a = c .before .before .before .before .before .before .before .before .before .before .before .before .before .before .before .before .before .before .before .before .before .before .before .before .before .before .before .args in
+    let a = c .before .before .before .before .before .before .before .before .before .before .before .before .before .before .before .before .before .before .before .before .before .before .before .before .before .args in
     let v = c .before .before .before .before .before .before .before .copy-node in
-    advance-copied (a .work .now) (a .words .now) (a .cells .now) (a .flex .now) (a .l) (a .st) (a .memo) (a .g) (a .top) (c .before .before .before .before .before .before .before .before .before .before .before .before .before .before .before .before .before .before .before .before .before .before .before .before .before .before .before .pre) (c .before .before .before .before .before .before .before .before .before .before .before .before .before .before .before .before .before .before .before .before .passes .result) (c .before .before .before .before .before .before .before .before .before .before .before .before .before .before .before .before .before .before .before .before .passes .ensures) (c .before .before .before .before .before .before .before .before .before .before .before .before .before .before .before .before .before .before .before .if1 .left) _ (c .before .before .before .before .before .before .before .before .before .before .before .before .before .before .before .node .ensures) (c .before .before .before .before .before .before .before .before .before .before .before .before .before .deepen .last .0) (c .before .before .before .before .before .before .before .before .before .before .before .before .before .deepen .result) (c .before .before .before .before .before .before .before .before .before .before .before .before .before .deepen .ensures) (c .before .before .before .before .before .before .before .before .before .before .if2 .left) (v .last .0) (v .last .1 .0) (v .kept .1 .0) (v .result) (v .ensures) _ _ (c .before .h .given .1)
-
-same-length-5 : tie.Need-same-length-5
-same-length-5 c = c .before .before .before .before .before .before .copy-node .kept .0 ∙ c .before .before .before .before .before .before .before .before .before .before .before .before .deepen .kept .0
-
-same-length-6 : tie.Need-same-length-6
-same-length-6 c = c .before .before .before .before .before .before .copy-node .kept .1 .0
+    advance-copied (a .work .now) (a .words .now) (a .cells .now) (a .flex .now) (a .l) (a .st) (a .memo) (a .g) (a .top) (c .before .before .before .before .before .before .before .before .before .before .before .before .before .before .before .before .before .before .before .before .before .before .before .before .before .pre) (c .before .before .before .before .before .before .before .before .before .before .before .before .before .before .before .before .before .before .passes .result) (c .before .before .before .before .before .before .before .before .before .before .before .before .before .before .before .before .before .before .passes .ensures) (c .before .before .before .before .before .before .before .before .before .before .before .before .before .before .before .before .before .if1 .left) _ (c .before .before .before .before .before .before .before .before .before .before .before .before .before .node .ensures) (c .before .before .before .before .before .before .before .before .before .before .before .is-left .result) (c .before .before .before .before .before .before .before .before .before .before .before .is-left .ensures) (c .before .before .before .before .before .before .before .before .before .before .if2 .left) (v .last .0) (v .last .1 .0) (v .kept .1 .0) (v .result) (v .ensures) _ _ (c .before .h .given .1)
 
 returns-4 : tie.Need-returns-4
 returns-4 c =
-    let a = c .before .before .before .before .before .before .before .before .before .before .before .before .before .before .before .before .before .before .before .before .before .before .before .before .before .before .args in
+    let a = c .before .before .before .before .before .before .before .before .before .before .before .before .before .before .before .before .before .before .before .before .before .before .before .before .args in
     let v = c .before .before .before .before .before .before .copy-node in
-    advance-short (a .work .now) (a .words .now) (a .cells .now) (a .flex .now) (a .l) (a .st) (a .memo) (a .g) (a .top) (c .before .before .before .before .before .before .before .before .before .before .before .before .before .before .before .before .before .before .before .before .before .before .before .before .before .before .pre) (c .before .before .before .before .before .before .before .before .before .before .before .before .before .before .before .before .before .before .before .passes .result) (c .before .before .before .before .before .before .before .before .before .before .before .before .before .before .before .before .before .before .before .passes .ensures) (c .before .before .before .before .before .before .before .before .before .before .before .before .before .before .before .before .before .before .if1 .left) _ (c .before .before .before .before .before .before .before .before .before .before .before .before .before .before .node .ensures) (c .before .before .before .before .before .before .before .before .before .before .before .before .deepen .last .0) (c .before .before .before .before .before .before .before .before .before .before .before .before .deepen .result) (c .before .before .before .before .before .before .before .before .before .before .before .before .deepen .ensures) (c .before .before .before .before .before .before .before .before .before .if2 .left) (v .last .0) (v .last .1 .0) (v .kept .1 .0) (v .result) (v .ensures) (c .enum-told .given .1)
+    advance-short (a .work .now) (a .words .now) (a .cells .now) (a .flex .now) (a .l) (a .st) (a .memo) (a .g) (a .top) (c .before .before .before .before .before .before .before .before .before .before .before .before .before .before .before .before .before .before .before .before .before .before .before .before .pre) (c .before .before .before .before .before .before .before .before .before .before .before .before .before .before .before .before .before .passes .result) (c .before .before .before .before .before .before .before .before .before .before .before .before .before .before .before .before .before .passes .ensures) (c .before .before .before .before .before .before .before .before .before .before .before .before .before .before .before .before .if1 .left) _ (c .before .before .before .before .before .before .before .before .before .before .before .before .node .ensures) (c .before .before .before .before .before .before .before .before .before .before .is-left .result) (c .before .before .before .before .before .before .before .before .before .before .is-left .ensures) (c .before .before .before .before .before .before .before .before .before .if2 .left) (v .last .0) (v .last .1 .0) (v .kept .1 .0) (v .result) (v .ensures) (c .enum-told .given .1)
 
 pub advance-spec : {M : Type 1} → statement M
 advance-spec =
@@ -95,16 +84,17 @@ advance-spec =
     (λ c. omega arith)
     (λ c. omega arith)
     node-requires
+    is-left-requires
     deepen-requires
-    add-t29
-    same-length-2
+    add-t32
+    (λ c. c .before .before .deepen .kept .0)
     returns-2
     copy-node-requires
     (λ c. search needs)
     (λ c. search needs)
-    same-length-3
-    same-length-4
+    (λ c. c .before .before .before .before .before .before .before .copy-node .kept .0)
+    (λ c. c .before .before .before .before .before .before .before .copy-node .kept .1 .0)
     returns-3
-    same-length-5
-    same-length-6
+    (λ c. c .before .before .before .before .before .before .copy-node .kept .0)
+    (λ c. c .before .before .before .before .before .before .copy-node .kept .1 .0)
     returns-4)

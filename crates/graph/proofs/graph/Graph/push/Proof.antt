@@ -1,39 +1,50 @@
 -- `Graph::push` meets its contract.
 use borrow.Author.Needs.{needs}
-use mathlib.Core.Path.{refl}
-use Prim.Native.Nat.{ℕ, _+_}
+use borrow.Author.Tests.{leb-true, leb-false}
+use mathlib.Core.Path.{sym, _∙_}
+use Prim.Native.Nat.{_-_}
 use native.Mathlib.Omega.{arith}
-use lib.ListN.{length, length-set}
+use lib.ListN.{length}
+use Rattle.base.specs.Part.{part}
 use Rattle.definition.specs.Graph.{applied}
-use Rattle.graph.specs.Cells.{nodes-few}
-use Rattle.graph.specs.Pushes.{no-room, pushed-long, app-pushed}
+use Rattle.graph.specs.Pushes.{no-room, filled-long, filled-laid, filled-pushed}
 use Rattle.graph.proofs.graph.Graph.push.Statement.{statement}
 use Rattle.graph.proofs.graph.Graph.push.Tie as tie
 
 returns : tie.Need-returns
-returns c = let a = c .before .before .before .before .args in no-room (a .cells .now) (a .cells .now) (a .table .now) (a .table .now) (a .self) (applied (a .head) (a .args .now)) (omega (arith, c .if1 .taken, c .before .before .before .before .pre .fits))
+returns c =
+    let a = c .before .before .before .before .before .before .args in
+    let h = leb-true (length (a .cells .now) - a .self .used) (length (a .args .now)) (sym (c .before .lacks-room .ensures) ∙ c .if1 .taken) in
+    no-room (a .cells .now) (a .cells .now) (a .table .now) (a .table .now) (a .self) (applied (a .head) (a .args .now)) (omega (arith, h, c .before .before .before .before .before .before .pre .fits))
 
-put-row-requires : tie.Need-put-row-requires
-put-row-requires c κs =
-    let L = c .before .before .before .before .before .before .before .before .before .before .pre in
-    let n = nodes-few _ _ _ L in
-    let a = c .before .before .before .before .before .before .before .before .before .before .args in
-    let m = pushed-long (a .cells .now) (a .args .now) (c .before .before .before .before .copy-words .last .1 .0) (a .self .used) (a .head) (a .self .used + 1 + length (a .args .now)) refl (omega (arith, L .fits, c .before .before .before .before .before .before .if1 .left)) (c .before .before .before .before .copy-words .ensures) in
-    (omega (arith, m, L .fits, c .before .before .before .before .before .before .if1 .left), omega (arith, m, L .wide), omega (arith, L .small, L .fits, c .before .before .before .before .before .before .if1 .left))
+part-copy-words-end : tie.Need-part-copy-words-end
+part-copy-words-end c =
+    let a = c .before .before .before .before .before .before .before .args in
+    let h = leb-false (length (a .cells .now) - a .self .used) (length (a .args .now)) (sym (c .before .before .lacks-room .ensures) ∙ c .before .if1 .left) in
+    omega (arith, h)
 
-same-length : tie.Need-same-length
-same-length c =
+push-laid-requires : tie.Need-push-laid-requires
+unfolding part
+push-laid-requires c κs =
     let a = c .before .before .before .before .before .before .before .before .before .before .before .before .before .args in
-    let used : ℕ = a .self .used in
-    pushed-long (a .cells .now) (a .args .now) (c .before .before .before .before .before .before .before .copy-words .last .1 .0) used (a .head) (used + 1 + length (a .args .now)) refl (omega (arith, c .before .before .before .before .before .before .before .before .before .if1 .left, c .before .before .before .before .before .before .before .before .before .before .before .before .before .pre .fits)) (c .before .before .before .before .before .before .before .copy-words .ensures)
+    let h = leb-false (length (a .cells .now) - a .self .used) (length (a .args .now)) (sym (c .before .before .before .before .before .before .before .before .lacks-room .ensures) ∙ c .before .before .before .before .before .before .before .if1 .left) in
+    let v = c .before .before .before .before .copy-words in
+    (filled-laid (a .cells .now) _ (v .last .1 .0) (a .self) _ (c .before .before .before .before .before .before .before .before .before .before .before .before .before .pre) (omega arith) (omega (arith, h)) (v .kept .1 .0), omega arith, omega (arith, h, filled-long (a .cells .now) _ (v .last .1 .0) (a .self) _ (c .before .before .before .before .before .before .before .before .before .before .before .before .before .pre) (omega arith) (omega (arith, h)) (v .kept .1 .0)))
 
 returns-2 : tie.Need-returns-2
-returns-2 c = app-pushed _ _ _ (c .before .before .before .before .before .before .before .before .before .before .before .before .before .args .args .now) (c .before .before .before .before .before .before .before .copy-words .last .1 .0) _ _ refl _ _ (c .before .before .before .before .before .before .before .before .before .before .before .before .before .pre) refl (omega (arith, c .before .before .before .before .before .before .before .before .before .if1 .left, c .before .before .before .before .before .before .before .before .before .before .before .before .before .pre .fits)) (c .before .before .before .before .before .before .before .copy-words .ensures) (c .before .before .put-row .ensures)
+unfolding part
+returns-2 c =
+    let a = c .before .before .before .before .before .before .before .before .before .before .before .before .before .before .before .before .before .before .args in
+    let h = leb-false (length (a .cells .now) - a .self .used) (length (a .args .now)) (sym (c .before .before .before .before .before .before .before .before .before .before .before .before .before .lacks-room .ensures) ∙ c .before .before .before .before .before .before .before .before .before .before .before .before .if1 .left) in
+    let v = c .before .before .before .before .before .before .before .before .before .copy-words in
+    let u = c .before .before .before .before .push-laid in
+    filled-pushed (a .cells .now) (a .table .now) (v .last .1 .0) (a .self) _ (c .before .before .before .before .before .before .before .before .before .before .before .before .before .before .before .before .before .before .pre) (omega arith) (omega (arith, h)) (v .kept .1 .0) (u .last .1 .0) (u .last .1 .1 .0) (a .args .now) (a .head) (v .ensures) (u .result) (u .ensures)
 
 pub push-spec : {M : Type 1} → statement M
 push-spec =
     tie.close
     (tie.spec
+    (λ c κs. search needs)
     (λ c. search needs)
     returns
     (λ c. search needs)
@@ -41,14 +52,9 @@ push-spec =
     (λ c. search needs)
     (λ c. search needs)
     (λ c. search needs)
-    (λ c. search needs)
-    (λ c. search needs)
-    (λ c. search needs)
-    (λ c. simp length-set (omega (arith, c .if1 .left, c .before .before .before .before .pre .fits)))
+    part-copy-words-end
     (λ c κs. search needs)
-    put-row-requires
-    (λ c. let n = nodes-few _ _ _ (c .before .before .before .before .before .before .before .before .before .before .before .before .before .pre) in omega (arith, c .before .before .before .before .before .before .before .before .before .before .before .before .before .pre .fits, c .before .before .before .before .before .before .before .before .before .before .before .before .before .pre .small))
-    (λ c. let n = nodes-few _ _ _ (c .before .before .before .before .before .before .before .before .before .before .before .before .before .pre) in omega (arith, c .before .before .before .before .before .before .before .before .before .before .before .before .before .pre .fits, c .before .before .before .before .before .before .before .before .before .before .before .before .before .pre .small))
-    same-length
+    push-laid-requires
+    (λ c. search needs)
     (λ c. search needs)
     returns-2)
