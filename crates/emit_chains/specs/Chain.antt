@@ -36,11 +36,11 @@ pub put-off : (first next : List ℕ) (k i : ℕ) → length first ≤ k → Put
 put-off first next k i l = record { on = λ h. absurd (omega arith); off = λ h. (refl, refl) }
 
 -- number i has the key, or has it not
-keyed-here : (key : ℕ → ℕ) (k i n : ℕ) → key i ≡ k → keyed key k i (suc n) ≡ i ∷ keyed key k (suc i) n
+pub keyed-here : (key : ℕ → ℕ) (k i n : ℕ) → key i ≡ k → keyed key k i (suc n) ≡ i ∷ keyed key k (suc i) n
 unfolding keyed
 keyed-here key k i n e = rw (eq-eqb (key i) k e, keyed)
 
-keyed-past : (key : ℕ → ℕ) (k i n : ℕ) → (key i ≡ k → ⊥) → keyed key k i (suc n) ≡ keyed key k (suc i) n
+pub keyed-past : (key : ℕ → ℕ) (k i n : ℕ) → (key i ≡ k → ⊥) → keyed key k i (suc n) ≡ keyed key k (suc i) n
 unfolding keyed
 keyed-past key k i n d = rw (ne-eqb (key i) k d, keyed)
 

@@ -3,3 +3,4 @@ pub mod Chain
 pub mod Chaining
 pub mod Head
 pub mod Places
+pub mod Follow

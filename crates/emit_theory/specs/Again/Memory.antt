@@ -1,13 +1,11 @@
--- The failure memory's law of every pack that parses: a try at a judgment that wrote no line does the same again, with no node and no note,
+-- The failure memory's law of every good pack: a try at a judgment that wrote no line does the same again, with no node and no note,
 -- at its own depth and at every greater one, in every later state with the same judgments proved and the same hypotheses.
 use mathlib.Core.Path.{_≡_, sym, ap, _∙_}
 use mathlib.Core.List.{List, []}
 use mathlib.Core.Option.{Option, none}
 use Prim.Native.Nat.{ℕ, _≤_}
 use native.Mathlib.Omega.{arith}
-use Rattle.definition.specs.Frame.{fine}
-use Rattle.definition.specs.Parse.{parse}
-use Rattle.definition.specs.Laws.Good.{parsed-good, parsed-few}
+use Rattle.definition.specs.Good.{Good, Few}
 use Rattle.definition.specs.Verdict.{Bound}
 use Rattle.definition.specs.Run.{Note}
 use Rattle.emission.specs.State.{Emitter, Setting, Tried}
@@ -23,10 +21,10 @@ came-parts {A = A} {o = o} {p = p} {a = a} {b = b} e =
     let q : _≡_ {A = Tried A} (record { result = o; state = a }) (record { result = p; state = b }) = cc in
     (ap (λ (t : Tried A). t .result) q, ap (λ (t : Tried A). t .state) q)
 
-module _ (S : Setting) (bytes : List ℕ) (read : parse bytes ≡ fine (S .pack)) where
+module _ (S : Setting) (G : Good (S .pack)) (W : Few (S .pack)) where
   -- the law: d levels are left for the try, and no more for its repetition
   pub memory : (hyps : List Bound) (d d′ : ℕ) → d′ ≤ d → (j : ℕ) (e : Emitter) → Fit (e .kept .store) j → Again S 0 Any (prove d S hyps j) (prove d′ S hyps j) e
-  memory hyps d d′ h j e fit = prove-again S (parsed-good bytes (S .pack) read) (parsed-few bytes (S .pack) read) hyps d d′ h j e fit
+  memory hyps d d′ h j e fit = prove-again S G W hyps d d′ h j e fit
 
   -- the same of the end that a try is known to have come to
   pub memory-of : (hyps : List Bound) (d d′ j : ℕ) (e e₁ : Emitter) (ns : List Note) (o : Option ℕ) → d′ ≤ d → Fit (e .kept .store) j → prove d S hyps j e ≡ came ns o e₁

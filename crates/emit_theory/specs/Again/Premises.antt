@@ -26,12 +26,12 @@ use Rattle.emit_theory.specs.Again.Building.{builds-all}
 
 -- ---- a store that is grown to
 -- a list that has grown and is as long is the same
-same-length : {A : Type 0} (xs ys : List A) → Grows xs ys → length ys ≡ length xs → ys ≡ xs
+pub same-length : {A : Type 0} (xs ys : List A) → Grows xs ys → length ys ≡ length xs → ys ≡ xs
 same-length xs ys (with [] q) l = q ∙ append-nil xs
 same-length xs ys (with (x ∷ more) q) l = let a = length-append xs (x ∷ more) in let b = ap length q in absurd (omega arith)
 
 -- to grow to one's own store is to do nothing
-grown-itself : (e : Emitter) → grownTo (e .kept .store) e ≡ came [] (some tt) e
+pub grown-itself : (e : Emitter) → grownTo (e .kept .store) e ≡ came [] (some tt) e
 unfolding grownTo
 grown-itself e = rw (eq-eqb (length (e .kept .store)) (length (e .kept .store)) refl, grownTo)
 
@@ -47,16 +47,16 @@ grown-to e s g = elim (see (eqb (length s) (length (e .kept .store)))) [
 
 -- ---- a rule's premises
 module _ (S : Setting) (r j : ℕ) where
-  abbrev matched : Emitter → Option (List Bound)
+  abbrev pub matched : Emitter → Option (List Bound)
   matched e = matches (over (S .pack) (e .kept .store)) (ruleOf (S .pack) r .conclusion) j []
 
   -- a rule that does not match has none
-  premises-none : (e : Emitter) → matched e ≡ none → premises S r j e ≡ came [] none e
+  pub premises-none : (e : Emitter) → matched e ≡ none → premises S r j e ≡ came [] none e
   unfolding premises
   premises-none e h = then-some now _ e e [] e [] none e refl (then-none (from (matched e)) _ e e [] (from-came (matched e) e ∙ ap (λ o. came [] o e) h))
 
   -- one that does has those that are built
-  premises-some : (e e₁ : Emitter) (env : List Bound) (b : BuiltAll) (ns : List Note) → matched e ≡ some env → buildAll (ruleOf (S .pack) r .premises) env (e .kept .store) ≡ b
+  pub premises-some : (e e₁ : Emitter) (env : List Bound) (b : BuiltAll) (ns : List Note) → matched e ≡ some env → buildAll (ruleOf (S .pack) r .premises) env (e .kept .store) ≡ b
       → grownTo (b .store) e ≡ came ns (some tt) e₁ → premises S r j e ≡ came (ns ++ []) (b .numbers) e₁
   unfolding premises
   premises-some e e₁ env b ns h k g =

@@ -30,6 +30,11 @@ use Rattle.emit_theory.specs.Search.Proving.{Has, HasAll, L-sort, States
 use Rattle.emit_theory.specs.Search.Replacing.{Stays, put-all}
 use Rattle.emit_theory.specs.Search.Cases.{application-comes, inputs-proper, values, variables-come}
 
+-- patterns of L's sort
+pub data LikeL (S : Setting) (e : Emitter) : List ℕ → Type 0 where
+  no-like : LikeL S e []
+  like-more : (v : ℕ) (vs : List ℕ) → Has S e (S .sort) v → LikeL S e vs → LikeL S e (v ∷ vs)
+
 module _ (S : Setting) (good : Good (S .pack)) (few : Few (S .pack)) where
   -- ---- another pattern for L
   stays : (e : Emitter) → Sound S e → Stays (S .pack) few (S .eigen) (e .undone .names) (e .kept .store)
@@ -52,16 +57,11 @@ module _ (S : Setting) (good : Good (S .pack)) (few : Few (S .pack)) where
       subst (λ u. AllOf P (S .eigen) (u .names) (e₁ .kept .store) (so ∷ []) (put .numbers)) (sym (z .1)) (subst (λ w. AllOf P (S .eigen) (e .undone .names) w (so ∷ []) (put .numbers)) (sym (z .0)) (R .patterns))))))
 
   -- ---- hypotheses
-  -- patterns of L's sort
-  pub data LikeL (e : Emitter) : List ℕ → Type 0 where
-    no-like : LikeL e []
-    like-more : (v : ℕ) (vs : List ℕ) → Has S e (S .sort) v → LikeL e vs → LikeL e (v ∷ vs)
-
-  like-on : (a b : Emitter) → Grew a b → (vs : List ℕ) → LikeL a vs → LikeL b vs
+  pub like-on : (a b : Emitter) → Grew a b → (vs : List ℕ) → LikeL S a vs → LikeL S b vs
   like-on a b G _ no-like = no-like
   like-on a b G _ (like-more v vs h hs) = like-more v vs (has-on S a b G (S .sort) v h) (like-on a b G vs hs)
 
-  recursive-like : (e : Emitter) (sorts vs : List ℕ) → HasAll S e sorts vs → LikeL e (recursive (S .sort) sorts vs)
+  pub recursive-like : (e : Emitter) (sorts vs : List ℕ) → HasAll S e sorts vs → LikeL S e (recursive (S .sort) sorts vs)
   unfolding recursive
   recursive-like e [] vs hs = no-like
   recursive-like e (so ∷ sorts) [] hs = no-like
@@ -71,7 +71,7 @@ module _ (S : Setting) (good : Good (S .pack)) (few : Few (S .pack)) where
   ]
 
   -- each is stated by its line
-  suppose-comes : (j : ℕ) (vs : List ℕ) (hyps : List Bound) (e : Emitter) → Sound S e → Has S e prop j → LikeL e vs → Supposed hyps e → Comes S Supposed (suppose S j vs hyps) e
+  pub suppose-comes : (j : ℕ) (vs : List ℕ) (hyps : List Bound) (e : Emitter) → Sound S e → Has S e prop j → LikeL S e vs → Supposed hyps e → Comes S Supposed (suppose S j vs hyps) e
   unfolding suppose stating
   suppose-comes j [] hyps e s h ls H = gives S Supposed hyps e s H
   suppose-comes j (v ∷ vs) hyps e s h (like-more _ _ l ls) H =
@@ -83,15 +83,15 @@ module _ (S : Setting) (good : Good (S .pack)) (few : Few (S .pack)) where
       suppose-comes j vs (pairing p n ∷ hyps) e₃ t₃ (has-on S e e₃ G prop j h) (like-on e e₃ G vs ls) (each-more (λ q m. States q m e₃) p n hyps T (supposed-on e e₃ G hyps H)))))
 
   -- ---- induction
-  abbrev Deepens : (List Bound → ℕ → Search ℕ) → Type 0
+  abbrev pub Deepens : (List Bound → ℕ → Search ℕ) → Type 0
   Deepens deeper = (hyps : List Bound) (q : ℕ) (e : Emitter) → Sound S e → Supposed hyps e → Has S e prop q → Comes S (States q) (deeper hyps q) e
 
   -- constructors of L's sort
-  abbrev Constructors : List ℕ → Type 0
+  abbrev pub Constructors : List ℕ → Type 0
   Constructors [] = Unit {0}
   Constructors (c ∷ cs) = (c < length (S .pack .symbols)) × (symbolOf (S .pack) c .output ≡ S .sort) × Constructors cs
 
-  constructors-given : (ys zs : List Symbol) → S .pack .symbols ≡ ys ++ zs → Constructors (constructorsOf (S .sort) zs (length ys))
+  pub constructors-given : (ys zs : List Symbol) → S .pack .symbols ≡ ys ++ zs → Constructors (constructorsOf (S .sort) zs (length ys))
   unfolding constructorsOf symbolOf
   constructors-given ys [] q = tt
   constructors-given ys (y ∷ zs) q =
@@ -109,7 +109,7 @@ module _ (S : Setting) (good : Good (S .pack)) (few : Few (S .pack)) where
       ]
 
   module _ (deeper : List Bound → ℕ → Search ℕ) (D : Deepens deeper) (j : ℕ) where
-    case-comes : (c : ℕ) (e : Emitter) → c < length (S .pack .symbols) → symbolOf (S .pack) c .output ≡ S .sort → Sound S e → Has S e prop j → Comes S (λ case e₁. Unit {0}) (inductCase S deeper j c) e
+    pub case-comes : (c : ℕ) (e : Emitter) → c < length (S .pack .symbols) → symbolOf (S .pack) c .output ≡ S .sort → Sound S e → Has S e prop j → Comes S (λ case e₁. Unit {0}) (inductCase S deeper j c) e
     unfolding inductCase
     case-comes c e l o s h =
         let sorts = symbolOf (S .pack) c .inputs in
@@ -125,7 +125,7 @@ module _ (S : Setting) (good : Good (S .pack)) (few : Few (S .pack)) where
         (λ goal e₄ g₄ t₄ K. then-comes S (States goal) Q (chain S (λ q. deeper hyps q) goal) _ e₄ (chain-comes S good few hyps (λ q. deeper hyps q) (D hyps) goal e₄ t₄ (supposed-on e₃ e₄ g₄ hyps H) K)
         (λ n e₅ g₅ t₅ T. gives S Q (record { last = n; variables = map (λ (v : Bound). v .variable) vs }) e₅ t₅ tt)))))
 
-    cases-come : (cs : List ℕ) (e : Emitter) → Constructors cs → Sound S e → Has S e prop j → Comes S (λ cases e₁. Unit {0}) (inductCases S deeper j cs) e
+    pub cases-come : (cs : List ℕ) (e : Emitter) → Constructors cs → Sound S e → Has S e prop j → Comes S (λ cases e₁. Unit {0}) (inductCases S deeper j cs) e
     unfolding inductCases
     cases-come [] e l s h = gives S _ [] e s tt
     cases-come (c ∷ cs) e l s h =
@@ -133,7 +133,7 @@ module _ (S : Setting) (good : Good (S .pack)) (few : Few (S .pack)) where
         (λ case e₁ g t _. then-comes S _ _ (inductCases S deeper j cs) _ e₁ (cases-come cs e₁ (l .2) t (has-on S e e₁ g prop j h)) (λ cases e₂ _ u _. gives S _ (case ∷ cases) e₂ u tt))
 
     -- the induct line states the judgment
-    induct-comes : (e : Emitter) → Sound S e → Has S e prop j → Comes S (States j) (induct S deeper j) e
+    pub induct-comes : (e : Emitter) → Sound S e → Has S e prop j → Comes S (States j) (induct S deeper j) e
     unfolding induct stating
     induct-comes e s h =
         let cs = constructorsOf (S .sort) (S .pack .symbols) 0 in

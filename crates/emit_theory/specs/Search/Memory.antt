@@ -7,6 +7,7 @@ use Prim.Native.Nat.{ℕ, _≤_}
 use Rattle.definition.specs.Pack.{prop}
 use Rattle.definition.specs.Frame.{fine}
 use Rattle.definition.specs.Parse.{parse}
+use Rattle.definition.specs.Laws.Good.{parsed-good, parsed-few}
 use Rattle.definition.specs.Verdict.{Bound}
 use Rattle.definition.specs.Run.{Note}
 use Rattle.emission.specs.State.{Emitter, Setting}
@@ -26,7 +27,7 @@ module _ (S : Setting) (bytes : List ℕ) (read : parse bytes ≡ fine (S .pack)
   -- a try that wrote no line does the same again, with no node and no note, at its own depth and at every greater one, in every later state
   pub tried-again : (hyps : List Bound) (d d′ j : ℕ) (e e₁ e′ : Emitter) (ns : List Note) (o : Option ℕ) → d′ ≤ d → Sound S e → Has S e prop j → prove d S hyps j e ≡ came ns o e₁
       → textLength S e₁ ≡ textLength S e → Later e₁ e′ → prove d′ S hyps j e′ ≡ came [] o e′
-  tried-again hyps d d′ j e e₁ e′ ns o less s h so same later = does-again S bytes read hyps d d′ j e e₁ e′ ns o less (sound-fit S e s prop j h) so same later
+  tried-again hyps d d′ j e e₁ e′ ns o less s h so same later = does-again S (parsed-good bytes (S .pack) read) (parsed-few bytes (S .pack) read) hyps d d′ j e e₁ e′ ns o less (sound-fit S e s prop j h) so same later
 
   -- so one that failed may be passed over
   pub failed-again : (hyps : List Bound) (d d′ j : ℕ) (e e₁ e′ : Emitter) (ns : List Note) → d′ ≤ d → Sound S e → Has S e prop j → prove d S hyps j e ≡ came ns none e₁

@@ -109,7 +109,7 @@ all-judged S e (cons t ts) _ (of-more so q sorts qs h hs) = judged-more q qs h (
 
 module _ (S : Setting) (good : Good (S .pack)) (few : Few (S .pack)) where
   -- a rule's premises are judgments
-  premises-comes : (r j : ℕ) (e : Emitter) → r < length (S .pack .rules) → Sound S e → Has S e prop j → Comes S (λ qs e₁. Judged S e₁ qs) (premises S r j) e
+  pub premises-comes : (r j : ℕ) (e : Emitter) → r < length (S .pack .rules) → Sound S e → Has S e prop j → Comes S (λ qs e₁. Judged S e₁ qs) (premises S r j) e
   unfolding premises
   premises-comes r j e l s h =
       let P = S .pack in
@@ -129,7 +129,7 @@ module _ (S : Setting) (good : Good (S .pack)) (few : Few (S .pack)) where
       )))
 
   -- tries one level deeper
-  abbrev Deeper : (ℕ → Search ℕ) → List Bound → Type 0
+  abbrev pub Deeper : (ℕ → Search ℕ) → List Bound → Type 0
   Deeper deeper hyps = (q : ℕ) (e : Emitter) → Sound S e → Supposed hyps e → Has S e prop q → Comes S (States q) (deeper q) e
 
   module _ (hyps : List Bound) (deeper : ℕ → Search ℕ) (D : Deeper deeper hyps) where
@@ -141,7 +141,8 @@ module _ (S : Setting) (good : Good (S .pack)) (few : Few (S .pack)) where
         then-comes S (States q) _ (deeper q) _ e (D q e s H h)
         (λ n e₁ g t T. then-comes S (λ ns e₂. Unit {0}) _ (proveAll deeper qs) _ e₁ (all-comes qs e₁ t (supposed-on e e₁ g hyps H) (judged-on S e e₁ g qs hs)) (λ ns e₂ _ u _. gives S _ (n ∷ ns) e₂ u tt))
 
-    by-rule-comes : (j r : ℕ) (e : Emitter) → r < length (S .pack .rules) → Sound S e → Supposed hyps e → Has S e prop j → Comes S (States j) (byRule S deeper j r) e
+    -- one rule
+    pub by-rule-comes : (j r : ℕ) (e : Emitter) → r < length (S .pack .rules) → Sound S e → Supposed hyps e → Has S e prop j → Comes S (States j) (byRule S deeper j r) e
     unfolding byRule
     by-rule-comes j r e l s H h =
         then-comes S (λ qs e₁. Judged S e₁ qs) (States j) (premises S r j) _ e (premises-comes r j e l s h)
