@@ -36,8 +36,8 @@ host: dock
 	done
 
 bench: tools dock
-	@tools/prove host_store host_unify host_read host_walk
-	@for crate in host_store host_unify host_read host_walk; do \
+	@tools/prove host_store host_unify host_read host_walk host_search
+	@for crate in host_store host_unify host_read host_walk host_search; do \
 	    rt staticlib $$crate > target/$$crate.log 2>&1 || { cat target/$$crate.log; exit 1; }; \
 	done
 	@HORN_SRC=$(realpath $(HORN)) RATTLE_LIB=$(CURDIR)/target/staticlib $(CARGO) build --offline --locked --release --quiet --manifest-path tools/Cargo.toml -p bench --features original

@@ -49,19 +49,27 @@ fn named(variable: &str, what: &str, files: &[&str]) -> Vec<PathBuf> {
 fn main() {
     let archives = named(
         "RATTLE_LIB",
-        "the library's archives (it has libdock.a, libhost_store.a, libhost_read.a, libhost_unify.a and libhost_walk.a)",
+        "the library's archives (it has libdock.a, libhost_store.a, libhost_read.a, libhost_unify.a, libhost_walk.a and libhost_search.a)",
         &[
             "libdock.a",
             "libhost_store.a",
             "libhost_read.a",
             "libhost_unify.a",
             "libhost_walk.a",
+            "libhost_search.a",
         ],
     );
     if let Some(folder) = archives.first().and_then(|archive| archive.parent()) {
         println!("cargo::rustc-link-search=native={}", folder.display());
     }
-    for archive in ["dock", "host_store", "host_read", "host_unify", "host_walk"] {
+    for archive in [
+        "dock",
+        "host_store",
+        "host_read",
+        "host_unify",
+        "host_walk",
+        "host_search",
+    ] {
         println!("cargo::rustc-link-lib=static={archive}");
     }
 

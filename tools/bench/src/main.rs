@@ -33,6 +33,7 @@ mod recorded;
 mod records;
 #[cfg(feature = "original")]
 mod rounds;
+mod search;
 mod show;
 #[cfg(feature = "original")]
 mod show_pace;
@@ -104,6 +105,10 @@ bench: the library beside the Rust original
                           the library and in the original
   bench show --times --quick
                           up to 10,000 steps and fewer rounds, for tests
+  bench search FOLDER     search for recorded judgments of FOLDER, as deep as that goes, and
+                          by rules that go round in the library, on a thread with the
+                          stack that README asks for; check the lines beside the
+                          recorded ones
   bench unify             unify printed sets of terms and drawn pairs in the library; check
                           what comes back beside Robinson's algorithm or a plain
                           unifier, and beside the original where it is in the build
@@ -160,6 +165,7 @@ fn run(args: &[&str]) -> Result<String, Fault> {
         ["unify"] => Ok(unify::check()?),
         ["unify", "--times"] => beside("unify --times", false),
         ["unify", "--times", "--quick"] => beside("unify --times", true),
+        ["search", folder] => Ok(search::check(folder)?),
         ["walk"] => Ok(walk::check()?),
         ["walk", "--times"] => beside("walk --times", false),
         ["walk", "--times", "--quick"] => beside("walk --times", true),

@@ -1,0 +1,19 @@
+-- A pattern put for another, and whether one stands in another, by a walk that meets each pattern once.
+pub mod Again
+pub mod Known
+pub mod Right
+pub mod Mentions
+pub mod Reading
+pub mod Walking
+pub mod Turning
+pub mod Asking
+pub mod AskTurns
+pub mod Beginning
+pub mod Telling
+pub mod Keys
+pub mod Making
+pub mod Putting
+pub mod PutTurns
+pub mod PutRuns
+pub mod Outcome
+pub mod Answers
