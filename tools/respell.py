@@ -22,6 +22,7 @@ LIBRARY = set("length append take drop get_or set map replicate reverse all any 
 
 # those that stand beside a bound name of their new spelling
 OTHERS = {
+    "◌orElse◌": "◌or_else◌",
     "classVars": "class_vars_of",
     "firstStep": "first_step_of",
     "flexVars": "flex_vars_of",
@@ -113,6 +114,7 @@ def main(argv):
     for o, n in left:
         turned[o] = OTHERS.get(o) or turned.pop(o)
     left = {(o, n) for o, n in left if o not in turned}
+    turned |= {o: n for o, n in OTHERS.items() if o in names}
     if "--names" in argv:
         for o, n in sorted(turned.items()):
             print(o, n)

@@ -1,4 +1,6 @@
 // Parts of lent buffers, their words compared and copied; ids, a hash, a stack.
+#![tactic(auto)]
+
 pub mod copy;
 pub mod hash;
 pub mod id;

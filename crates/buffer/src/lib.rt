@@ -1,4 +1,6 @@
 // Numbers and text in lent buffers: little-endian reads, clearing, decimal digits.
+#![tactic(auto)]
+
 pub mod decimal;
 pub mod little;
 pub mod zero;

@@ -1,4 +1,6 @@
 // A rule's words against nodes, with the values of its variables.
+#![tactic(auto)]
+
 pub mod matching;
 pub mod pending;
 pub mod values;

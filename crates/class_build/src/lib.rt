@@ -1,4 +1,6 @@
 // The goals' tests behind class building.
+#![tactic(auto)]
+
 pub mod goal;
 pub mod goals;
 pub mod goals_each;

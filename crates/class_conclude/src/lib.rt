@@ -1,4 +1,6 @@
 // The variables of the copies read back.
+#![tactic(auto)]
+
 pub mod entries;
 // The variables of a graph that are fixed to their ground values.
 pub mod fixed;

@@ -1,4 +1,6 @@
 // Which steps are needed: the first step of each judgment, whether a step is cut, and marks of the needed steps.
+#![tactic(auto)]
+
 pub mod cut;
 pub mod firsts;
 pub mod marks;

@@ -1,4 +1,6 @@
 // What class building has at hand.
+#![tactic(auto)]
+
 pub mod building;
 pub mod layout;
 // One premise of a rule in the term graph, unified with a copy of its ref's conclusion.

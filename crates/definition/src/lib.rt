@@ -1,4 +1,5 @@
 // What is right: document 01 as definitions on lists. No code; the types that code and definitions share.
+#![tactic(auto)]
 
 // The refusals of document 01's table, in its order; each but the ninth with its place.
 #[derive(Drop)]

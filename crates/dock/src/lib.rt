@@ -1,4 +1,6 @@
 // What class building comes to, ahead of clearing.
+#![tactic(auto)]
+
 pub mod classes_outcome;
 // What showing the goals comes to, ahead of clearing.
 pub mod show_outcome;

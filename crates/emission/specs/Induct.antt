@@ -6,7 +6,7 @@ use Rattle.definition.specs.Store.{variable_node}
 use Rattle.definition.specs.Analysis.{pairing}
 use Rattle.definition.specs.Run.{Run}
 use Rattle.emission.specs.Line.{Case, var_line, hyp_line, induct_line, tally}
-use Rattle.emission.specs.State.{Emitter, Setting, Tried, ◌>>=◌, ◌orElse◌, give, fail, now, change, grown_to, interned, write, write_step, having_name, having_proved}
+use Rattle.emission.specs.State.{Emitter, Setting, Tried, ◌>>=◌, ◌or_else◌, give, fail, now, change, grown_to, interned, write, write_step, having_name, having_proved}
 use Rattle.emission.specs.Words.{judgment}
 use Rattle.emission.specs.Patterns.{constructors_of, mentions, replace}
 use Rattle.emission.specs.Prove.{chain, prove}

@@ -5,7 +5,7 @@ use Rattle.std.proofs.Math.Option.{Option, none, some}
 use Rattle.definition.specs.Pack.{rule_of}
 use Rattle.definition.specs.Verdict.{Bound, value_of, matches}
 use Rattle.definition.specs.Run.{Run}
-use Rattle.emission.specs.State.{Emitter, Setting, Tried, ◌>>=◌, ◌orElse◌, from, give, fail, now, change, grown_to, having_proved}
+use Rattle.emission.specs.State.{Emitter, Setting, Tried, ◌>>=◌, ◌or_else◌, from, give, fail, now, change, grown_to, having_proved}
 use Rattle.emission.specs.Words.{pattern_of, step}
 use Rattle.emission.specs.Patterns.{over, rules_for, build, build_all}
 

@@ -58,8 +58,8 @@ unfoldable pub go_back : {A : Type 0} → (Emitter → Run (Tried A)) → Tried 
 go_back n t = elim t.result [ none ↦ n t.state | some a ↦ return t ]
 
 -- the second where the first has no result: whatever the first wrote stays
-infixl 18 ◌orElse◌
-unfoldable pub ◌orElse◌ : {A : Type 0} → (Emitter → Run (Tried A)) → (Emitter → Run (Tried A)) → Emitter → Run (Tried A)
+infixl 18 ◌or_else◌
+unfoldable pub ◌or_else◌ : {A : Type 0} → (Emitter → Run (Tried A)) → (Emitter → Run (Tried A)) → Emitter → Run (Tried A)
 unfolding ◌>>=r◌ go_back
 m or_else n = λ e. m e >>=r λ t. go_back n t
 

@@ -1,4 +1,5 @@
 // What is right of emission: document 01's "Proof lines and goal lines" as definitions on lists. No code; the type that code shares.
+#![tactic(auto)]
 
 // What emission counts: goals written open, goals written ground; step, hyp and induct lines; induct lines; def lines.
 #[repr(C)]

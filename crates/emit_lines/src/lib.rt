@@ -1,4 +1,6 @@
 // The text of emission's lines, put behind a text in a lent buffer: names, variables, words, cases.
+#![tactic(auto)]
+
 pub mod case;
 pub mod list;
 pub mod name;

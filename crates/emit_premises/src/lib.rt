@@ -1,4 +1,6 @@
 // A rule's premises as patterns.
+#![tactic(auto)]
+
 pub mod build;
 pub mod building;
 pub mod premises;

@@ -11,7 +11,7 @@ use Rattle.definition.specs.Good.{Good, Few}
 use Rattle.definition.specs.Frame.{Read, fine, refuse}
 use Rattle.definition.specs.Run.{outcome, first_short}
 use Rattle.definition.specs.declared.Refusal.{Refusal}
-use Rattle.emission.specs.State.{Emitter, Tried, ◌orElse◌}
+use Rattle.emission.specs.State.{Emitter, Tried, ◌or_else◌}
 use Rattle.emission.specs.Prove.{by_rule, by_rules}
 use Rattle.emit_theory.specs.Search.Proving.{Has, States, has_on, prove_comes, by_rule_comes}
 use Rattle.emit_chains.specs.Chain.{keyed, keyed_here}

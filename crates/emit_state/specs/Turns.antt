@@ -7,7 +7,7 @@ use Rattle.definition.specs.Frame.{Read, refuse}
 use Rattle.definition.specs.Answer.{Lent}
 use Rattle.definition.specs.Run.{outcome}
 use Rattle.definition.specs.declared.Refusal.{Refusal}
-use Rattle.emission.specs.State.{Emitter, Tried, Search, ◌>>=◌, go_on, ◌orElse◌, go_back}
+use Rattle.emission.specs.State.{Emitter, Tried, Search, ◌>>=◌, go_on, ◌or_else◌, go_back}
 use Rattle.emit_theory.specs.Outcomes.{on_from, ran_then, ran-or, went_none, went_some, back_none, back_some}
 use Rattle.emit_state.specs.Holding.{got, lost}
 

@@ -2,7 +2,7 @@
 use Rattle.std.specs.Prelude.{◌≡◌, refl, List, [], ◌++◌}
 use Rattle.std.proofs.Math.Option.{Option, none, some}
 use Rattle.definition.specs.Run.{Note, Run, done, behind, ◌>>=◌ as ◌>>=r◌}
-use Rattle.emission.specs.State.{Emitter, Tried, go_on, ◌>>=◌, go_back, ◌orElse◌, from, attempt}
+use Rattle.emission.specs.State.{Emitter, Tried, go_on, ◌>>=◌, go_back, ◌or_else◌, from, attempt}
 
 -- a search's notes, its result or none, and the state that it came to: no search is ever refused
 abbrev pub came : {A : Type 0} → List Note → Option A → Emitter → Run (Tried A)
@@ -28,12 +28,12 @@ module _ {A B : Type 0} (m : Emitter → Run (Tried A)) (f : A → Emitter → R
 module _ {A : Type 0} (m n : Emitter → Run (Tried A)) (e e₁ : Emitter) (ns : List Note) where
   -- behind a result there is no second search
   pub or_some : (a : A) → m e ≡ came ns (some a) e₁ → (m or_else n) e ≡ came (ns ++ []) (some a) e₁
-  unfolding ◌orElse◌ ◌>>=r◌ go_back behind
+  unfolding ◌or_else◌ ◌>>=r◌ go_back behind
   or_some a h = rw h
 
   -- behind none there is, from the state that the first came to
   pub or-none : (ms : List Note) (o : Option A) (e₂ : Emitter) → m e ≡ came ns none e₁ → n e₁ ≡ came ms o e₂ → (m or_else n) e ≡ came (ns ++ ms) o e₂
-  unfolding ◌orElse◌ ◌>>=r◌ go_back behind
+  unfolding ◌or_else◌ ◌>>=r◌ go_back behind
   or-none ms o e₂ h k = rw (h, k)
 
 module _ {A : Type 0} (m : Emitter → Run (Tried A)) (e e₁ : Emitter) (ns : List Note) (o : Option A) where

@@ -4,7 +4,7 @@ use Rattle.std.proofs.Common.{ap, ◌∙◌, subst}
 use Rattle.std.proofs.Math.Option.{Option, none, some}
 use Rattle.definition.specs.Test.{never}
 use Rattle.definition.specs.Run.{Note, Run}
-use Rattle.emission.specs.State.{Emitter, Setting, Tried, ◌>>=◌, ◌orElse◌, from, attempt, give, fail, now, change}
+use Rattle.emission.specs.State.{Emitter, Setting, Tried, ◌>>=◌, ◌or_else◌, from, attempt, give, fail, now, change}
 use Rattle.emit_theory.specs.Came.{came, from-came, then_some, then_none, or_some, or-none, attempt-came}
 use Rattle.emit_theory.specs.Sound.{Sound, Grew, grew_none, grew_then}
 

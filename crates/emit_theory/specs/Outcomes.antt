@@ -8,7 +8,7 @@ use Rattle.definition.specs.Frame.{Read, fine, refuse}
 use Rattle.definition.specs.Answer.{Lent}
 use Rattle.definition.specs.Run.{Note, Run, done, stop, note, behind, ◌>>=◌ as ◌>>=r◌, has_room_for, first_short, outcome}
 use Rattle.definition.specs.declared.Refusal.TheVariants.{Short}
-use Rattle.emission.specs.State.{Emitter, Tried, Search, go_on, ◌>>=◌, go_back, ◌orElse◌, attempt}
+use Rattle.emission.specs.State.{Emitter, Tried, Search, go_on, ◌>>=◌, go_back, ◌or_else◌, attempt}
 
 -- what was read, and on; a refusal ends it
 unfoldable pub on_from : {A B : Type 0} → Read A → (A → Read B) → Read B
@@ -61,7 +61,7 @@ module _ {A B : Type 0} (l : Lent) (m : Search A) (f : A → Search B) (e : Emit
 module _ {A : Type 0} (l : Lent) (m n : Search A) (e : Emitter) where
   -- short if the first is; its result if it has one; else the second from its state
   pub ran-or : ran l (m or_else n) e ≡ on_from (ran l m e) (λ (t : Tried A). outcome l (go_back n t))
-  unfolding ◌orElse◌
+  unfolding ◌or_else◌
   ran-or = outcome_then l (m e) (λ t. go_back n t)
 
 -- nothing noted is never short

@@ -1,1 +1,2 @@
 // What emission keeps: what follows from its definition alone, for the code that will do it. No code.
+#![tactic(auto)]

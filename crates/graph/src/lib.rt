@@ -1,4 +1,6 @@
 // The term graph in lent cells.
+#![tactic(auto)]
+
 pub mod graph;
 pub mod nodes;
 // Where the words of its table stand.

@@ -1,4 +1,6 @@
 // A turn of unification: two roots meet, and their arguments become pairs.
+#![tactic(auto)]
+
 pub mod meet;
 pub mod pairs;
 // Unification of nodes, by a worklist of pairs behind the graph's rows.

@@ -1,4 +1,6 @@
 // Reads a pack and forgets it, for the host's tests and benchmark of the reader.
+#![tactic(auto)]
+
 ghost use Rattle.std.specs.Prelude.{◌≡◌, length};
 ghost use Rattle.definition.specs.Check.{CheckLeft};
 ghost use Rattle.host_read.specs.Read.{read_only};

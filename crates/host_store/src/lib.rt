@@ -1,4 +1,6 @@
 // Interns a list of nodes, for the host's test and benchmark of the store.
+#![tactic(auto)]
+
 ghost use Rattle.std.specs.Prelude.{◌≡◌, ◌+◌, ◌≤◌, ◌<◌, length, take};
 ghost use Rattle.definition.specs.Store.{pattern_words};
 ghost use Rattle.store.specs.Stored.{Stored, Enough, nodes};

@@ -1,4 +1,6 @@
 // Unifies two nodes of a list, for the host's test and benchmark of the graph.
+#![tactic(auto)]
+
 ghost use Rattle.std.specs.Prelude.{◌≡◌, ◌+◌, ◌≤◌, ◌<◌, length, get_or, replicate};
 ghost use Rattle.definition.specs.Store.{variable_head, nothing};
 ghost use Rattle.graph.specs.Links.{Holds};

@@ -1,4 +1,6 @@
 // Lists the records of a pack that it reads: offset, kind and body length, a line for each.
+#![tactic(auto)]
+
 ghost use Rattle.std.specs.Prelude.{◌≡◌, ◌≤◌, length, replicate};
 ghost use Rattle.buffer.specs.Text.{Wrote, write};
 ghost use Rattle.list_records.specs.Lines.{record_at, field, line, cut_line, lines};

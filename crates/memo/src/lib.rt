@@ -1,3 +1,5 @@
 // Memos: maps by dense numbers that clear at once.
+#![tactic(auto)]
+
 pub mod memo;
 pub mod part;

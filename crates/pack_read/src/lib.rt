@@ -1,4 +1,6 @@
 // The parsed pack, read in place: its bytes are never copied.
+#![tactic(auto)]
+
 pub mod abstracted;
 pub mod body;
 pub mod cut;

@@ -1,4 +1,6 @@
 // A rule's terms, read in place.
+#![tactic(auto)]
+
 pub mod terms;
 // The Horn theory of a pack taken up record by record: sorts, symbols and rules.
 pub mod rule;

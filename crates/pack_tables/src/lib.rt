@@ -1,4 +1,6 @@
 // The framing of records, and what their bodies are made of: names and rows of words.
+#![tactic(auto)]
+
 pub mod field;
 pub mod header;
 pub mod name;

@@ -1,2 +1,4 @@
 // The interned pattern store over lent words.
+#![tactic(auto)]
+
 pub mod nodes;

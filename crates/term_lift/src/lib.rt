@@ -1,3 +1,5 @@
 // Ground nodes lifted into the interned store.
+#![tactic(auto)]
+
 pub mod intern;
 pub mod lift;

@@ -1,4 +1,6 @@
 // A goal's lines: its name and general form, and a line for each variable of its class's conclusion.
+#![tactic(auto)]
+
 pub mod form;
 pub mod lines;
 pub mod values;

@@ -1,1 +1,2 @@
 // What follows from the definition alone. No code.
+#![tactic(auto)]

@@ -9,7 +9,7 @@ use Rattle.definition.specs.Calls.{no_figures}
 use Rattle.definition.specs.Ascii.{bytes}
 use Rattle.definition.specs.Rows.Say.{sort, symbol, rule, node, step, goal, result, cut}
 use Rattle.definition.specs.Rows.Row.{figure_words}
-use Rattle.emission.specs.State.{◌>>=◌, ◌orElse◌}
+use Rattle.emission.specs.State.{◌>>=◌, ◌or_else◌}
 use Rattle.emission.specs.Calls.{EmitLeft, emit_lent, cert_emit, certgen}
 
 -- the lengths of buffers 1, 2, 3, 5 and 6
@@ -61,7 +61,7 @@ zeros xs = elim (all (eqb 0) xs) [ true ↦ 1 | false ↦ 0 ] ∷ length xs ∷ 
 
 -- what a row's call gives
 unfoldable pub seen : Row → List ℕ
-unfolding ◌>>=f◌ ◌>>=r◌ ◌>>=◌ ◌orElse◌ right within kinds take_record bytes sort symbol rule node step goal result cut zeros cert_emit certgen
+unfolding ◌>>=f◌ ◌>>=r◌ ◌>>=◌ ◌or_else◌ right within kinds take_record bytes sort symbol rule node step goal result cut zeros cert_emit certgen
 seen (generated input output) = certgen input
 seen (emitted pack proof goals ns) =
     let l = run pack ample (works_with pack ample) in

@@ -12,7 +12,7 @@ use Rattle.definition.specs.Pack.{Node, Rule}
 use Rattle.definition.specs.Good.{Below, Good, Few}
 use Rattle.definition.specs.Verdict.{Bound}
 use Rattle.definition.specs.Run.{Note}
-use Rattle.emission.specs.State.{Emitter, Setting, Search, ◌>>=◌, ◌orElse◌, give, fail, change}
+use Rattle.emission.specs.State.{Emitter, Setting, Search, ◌>>=◌, ◌or_else◌, give, fail, change}
 use Rattle.emission.specs.Words.{pattern_of}
 use Rattle.emission.specs.Patterns.{has_head, rules_for}
 use Rattle.emission.specs.Prove.{line_of, look_up, keeping, prove_all, by_rule, by_rules, chain, prove}

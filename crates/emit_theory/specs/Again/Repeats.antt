@@ -3,7 +3,7 @@ use Rattle.std.specs.Prelude.{◌≡◌, List, [], ◌++◌, ℕ}
 use Rattle.std.proofs.Common.{◌∙◌, arith}
 use Rattle.std.proofs.Math.Option.{Option, none, some}
 use Rattle.definition.specs.Pack.{Node}
-use Rattle.emission.specs.State.{Emitter, Setting, Search, ◌>>=◌, ◌orElse◌}
+use Rattle.emission.specs.State.{Emitter, Setting, Search, ◌>>=◌, ◌or_else◌}
 use Rattle.emit_theory.specs.Came.{came, then_some, then_none, or_some, or-none}
 use Rattle.emit_theory.specs.Again.Later.{later_then, Further, further_then}
 use Rattle.emit_theory.specs.Again.Wrote.{Wrote}

@@ -1,0 +1,14 @@
+-- `zero_bytes_from` meets its contract: with each turn what is still to be zeroed gives the same whole.
+use borrow.Author.Rules.{rules}
+use mathlib.Core.Path.{◌≡◌, sym, ◌∙◌}
+use Prim.Native.Nat.{◌-◌}
+use native.Mathlib.Omega.{arith}
+use lib.ListN.{length}
+use Rattle.buffer.specs.Zero.{zeroed, zeroed-turn, zeroed-end}
+use Rattle.buffer.proofs.zero.zero_bytes_from.Given as goal
+
+abbrev pub invariant-loop-j : goal.invariant-loop-j
+invariant-loop-j l = (length l.bytes ≡ length l.initial.bytes) × (zeroed l.j l.bytes ≡ zeroed l.from l.initial.bytes)
+
+abbrev pub decreases-loop-j : goal.decreases-loop-j
+decreases-loop-j l = length l.initial.bytes - l.j

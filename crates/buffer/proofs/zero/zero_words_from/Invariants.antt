@@ -1,0 +1,14 @@
+-- `zero_words_from` meets its contract: with each turn what is still to be zeroed gives the same whole.
+use borrow.Author.Rules.{rules}
+use mathlib.Core.Path.{◌≡◌, sym, ◌∙◌}
+use Prim.Native.Nat.{◌-◌}
+use native.Mathlib.Omega.{arith}
+use lib.ListN.{length}
+use Rattle.buffer.specs.Zero.{zeroed, zeroed-turn, zeroed-end}
+use Rattle.buffer.proofs.zero.zero_words_from.Given as goal
+
+abbrev pub invariant-loop-i : goal.invariant-loop-i
+invariant-loop-i l = (length l.words ≡ length l.initial.words) × (zeroed l.i l.words ≡ zeroed l.from l.initial.words)
+
+abbrev pub decreases-loop-i : goal.decreases-loop-i
+decreases-loop-i l = length l.initial.words - l.i
