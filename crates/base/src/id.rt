@@ -1,15 +1,15 @@
 // The numbers of nodes, of three kinds that are never mixed, and the numbers that are no node's.
 
 // A ground node of the pack.
-#[derive(Drop)]
+#[derive(Clone, Copy)]
 pub struct Ground(pub u32);
 
 // A node of the pattern store.
-#[derive(Drop)]
+#[derive(Clone, Copy)]
 pub struct Pattern(pub u32);
 
 // A node of the term graph.
-#[derive(Drop)]
+#[derive(Clone, Copy)]
 pub struct Node(pub u32);
 
 impl Ground {
@@ -32,7 +32,7 @@ impl Node {
 }
 
 // A prefix word of a rule: a symbol's number, or a variable's behind VAR.
-#[derive(Drop)]
+#[derive(Clone, Copy)]
 pub struct Prefix(pub u32);
 
 impl Prefix {

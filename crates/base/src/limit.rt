@@ -2,7 +2,7 @@
 
 // "Most: 256 sorts, 4,096 symbols, arity 16, 4,096 rules, 64 variables, 16 premises and 256 prefix words a rule, 2^24 bytes or cells a
 // buffer, 2^30 words for work"; a name has 1 to 64 bytes.
-#[derive(Drop)]
+#[derive(Clone, Copy)]
 pub struct Limit(pub usize);
 
 impl Limit {

@@ -3,7 +3,7 @@ ghost use Rattle.std.specs.Prelude.{◌≡◌, ◌+◌, ◌<◌, ◌≤◌, ◌�
 ghost use Rattle.base.specs.Stack.{stacked, Took};
 
 // Where the stack's first word stands, and how many there are.
-#[derive(Drop)]
+#[derive(Clone, Copy)]
 pub struct Stack {
     pub at: usize,
     pub len: usize,
@@ -11,7 +11,7 @@ pub struct Stack {
 
 // What a walk puts on its stack, or a worklist in its list: two words, of which the second says how many arguments were taken, or is the
 // other of a pair.
-#[derive(Drop)]
+#[derive(Clone, Copy)]
 pub struct Frame(pub usize);
 
 impl Frame {
@@ -25,7 +25,7 @@ impl Frame {
 }
 
 // A word taken off, and what is left; or that there was none.
-#[derive(Drop)]
+#[derive(Clone, Copy)]
 pub enum Popped {
     Word(u32, Stack),
     Empty,

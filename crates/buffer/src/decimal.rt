@@ -4,7 +4,7 @@ ghost use Rattle.definition.specs.Decimal.{decimal};
 ghost use Rattle.buffer.specs.Text.{Wrote, write};
 
 // How a write ended: the place behind the last byte, or that there was no room.
-#[derive(Drop)]
+#[derive(Clone, Copy)]
 pub enum Put {
     End(usize),
     Short,

@@ -1,7 +1,7 @@
 // The first of some things that fails.
 
 // Its number, or that none fails.
-#[derive(Drop)]
+#[derive(Clone, Copy)]
 pub enum Failing {
     At(usize),
     Nothing,

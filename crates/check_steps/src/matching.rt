@@ -18,7 +18,7 @@ use pack_read::rule::{rule_vars, rule_word};
 use pack_tables::catalog::Catalog;
 
 // A word was matched, and these nodes are left; none was left; or something differs.
-#[derive(Drop)]
+#[derive(Clone, Copy)]
 pub enum Turn {
     Next(Stack),
     Done,

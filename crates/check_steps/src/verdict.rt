@@ -10,7 +10,7 @@ use crate::steps::failing_step;
 use pack_tables::catalog::Catalog;
 
 // All pass, or the first step or goal that fails.
-#[derive(Drop)]
+#[derive(Clone, Copy)]
 pub enum Verdict {
     Accepted,
     Step(usize),

@@ -17,14 +17,14 @@ use definition::{Buffer, Figures, Refusal};
 use pack_tables::catalog::Catalog;
 
 // How many class words and pattern words there are, and the figures; or why there are none.
-#[derive(Drop)]
+#[derive(Clone, Copy)]
 pub enum Answer {
     Done(usize, usize, Figures),
     Refused(Refusal),
 }
 
 // All classes are made: what is at hand then, how many there are, and their sums; or why they are not.
-#[derive(Drop)]
+#[derive(Clone, Copy)]
 pub enum Classes {
     Made(Building, Counts, Counted),
     Refused(Refusal),

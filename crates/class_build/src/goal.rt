@@ -18,7 +18,7 @@ use term_instance::tables::Instance;
 
 // A goal is met, with the memos as they are then and where the row of its class stands; or it has no result, or one with another
 // judgment; or the judgment of the result's step is no instance of its class's conclusion.
-#[derive(Drop)]
+#[derive(Clone, Copy)]
 pub enum Goal {
     Met(Memo, Memo, usize),
     Unmet,
@@ -26,7 +26,7 @@ pub enum Goal {
 }
 
 // Where the instance test has its tables in work, and its memos as they are: the pattern nodes met, the values of variables.
-#[derive(Drop)]
+#[derive(Clone, Copy)]
 pub struct Testing {
     pub tables: Instance,
     pub seen: Memo,

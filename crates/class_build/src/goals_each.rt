@@ -11,7 +11,7 @@ use store::nodes::Store;
 
 // All goals are met, with the memos as they are then; or goal i has no result, or one with another judgment; or the judgment of the
 // result's step s is no instance of its class's conclusion.
-#[derive(Drop)]
+#[derive(Clone, Copy)]
 pub enum Tested {
     Met(Memo, Memo),
     Unmet(usize),

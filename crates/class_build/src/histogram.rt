@@ -5,7 +5,7 @@ ghost use Rattle.class_build.specs.Slots.{Wide, Adds, Sorts};
 use class_keys::classes::{Keying, class_count};
 
 // How many classes have up to 1 step, 2 to 9, 10 to 99, 100 or more.
-#[derive(Drop)]
+#[derive(Clone, Copy)]
 pub struct Slots {
     pub single: u64,
     pub few: u64,

@@ -12,7 +12,7 @@ use pack_tables::catalog::Catalog;
 use store::nodes::Store;
 
 // The places, how many classes and needed steps there are, a store and a memo without entries; or there is no room for the steps' words.
-#[derive(Drop)]
+#[derive(Clone, Copy)]
 pub enum Ready {
     On(Keying, Layout, Counts, Store, Memo),
     Short,

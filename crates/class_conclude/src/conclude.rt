@@ -15,7 +15,7 @@ use term_instantiate::terms::{Place, instantiate};
 use term_readback::table::Table;
 
 // A rule and how many variables it has; the word of it that its conclusion starts with; how many variables of copies are noted.
-#[derive(Drop)]
+#[derive(Clone, Copy)]
 pub struct Ending {
     pub rule: usize,
     pub vars: usize,
@@ -24,7 +24,7 @@ pub struct Ending {
 }
 
 // What was read: the conclusion's pattern, how many variables are numbered, and what figures count.
-#[derive(Drop)]
+#[derive(Clone, Copy)]
 pub struct Concluded {
     pub pattern: Pattern,
     pub numbered: usize,
@@ -34,7 +34,7 @@ pub struct Concluded {
 }
 
 // The graph and the store as they are then, and what was read; or the cells have no room; or the words have none.
-#[derive(Drop)]
+#[derive(Clone, Copy)]
 pub enum Conclusion {
     Read(Graph, Store, Concluded),
     ShortGraph,

@@ -20,7 +20,7 @@ use term_readback::root::Resolved;
 use term_readback::table::{Reading, Table};
 
 // The store as it is then, how many variables are numbered, and how many of the patterns are variables; or the words have no room.
-#[derive(Drop)]
+#[derive(Clone, Copy)]
 pub enum Entries {
     Read(Store, usize, usize),
     Short,

@@ -18,7 +18,7 @@ use term_readback::root::Resolved;
 use term_readback::table::{Reading, Table};
 
 // What is read back: a node, and so many variables of copies. Nodes from `before` on have no value.
-#[derive(Drop)]
+#[derive(Clone, Copy)]
 pub struct Wanted {
     pub before: usize,
     pub node: Node,
@@ -27,7 +27,7 @@ pub struct Wanted {
 
 // The store as it is then, the conclusion's pattern, how many variables are numbered, and how many of the copies' are renamed; or the
 // words have no room.
-#[derive(Drop)]
+#[derive(Clone, Copy)]
 pub enum Back {
     Read(Store, Pattern, usize, usize),
     Short,

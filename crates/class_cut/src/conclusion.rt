@@ -16,7 +16,7 @@ use term_lift::intern::intern_key;
 use term_lift::lift::Lifted;
 
 // The store that has the variables, or that there is no room for one.
-#[derive(Drop)]
+#[derive(Clone, Copy)]
 enum Fresh {
     Grown(Store),
     Short,

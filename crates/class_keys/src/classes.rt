@@ -4,7 +4,7 @@ ghost use Rattle.class_keys.specs.ClassWords.{first_in, count_in, slots_at, join
 ghost use Rattle.definition.specs.Store.{nothing};
 
 // A class's number.
-#[derive(Drop)]
+#[derive(Clone, Copy)]
 pub struct Class(pub u32);
 
 impl Class {
@@ -15,7 +15,7 @@ impl Class {
 // Where the keys have their words in work: for each ground node that a step has as its judgment the first such step; behind these
 // words each class's first step; behind these how many steps it has; behind these the slots of a probe table of the classes' keys.
 // There is room for `cap` nodes and as many steps.
-#[derive(Drop)]
+#[derive(Clone, Copy)]
 pub struct Keying {
     pub at: usize,
     pub cap: usize,
@@ -38,7 +38,7 @@ impl Keying {
 }
 
 // How many classes there are, and how many needed steps.
-#[derive(Drop)]
+#[derive(Clone, Copy)]
 pub struct Counts {
     pub classes: usize,
     pub needed: usize,

@@ -13,7 +13,7 @@ use base::same::same_words;
 use pack_tables::catalog::Catalog;
 
 // Where a search for a key ends: at the class that has it, or at the first free slot.
-#[derive(Drop)]
+#[derive(Clone, Copy)]
 pub enum Slot {
     Found(usize),
     Free(usize),

@@ -11,7 +11,7 @@ use store::nodes::Store;
 
 // What class building has at hand between two classes: where the pack's tables, the keys and its own words stand in work, the store of
 // all patterns, the copies' memo, and up to where the class buffer is filled.
-#[derive(Drop)]
+#[derive(Clone, Copy)]
 pub struct Building {
     pub catalog: Catalog,
     pub keying: Keying,
@@ -22,7 +22,7 @@ pub struct Building {
 }
 
 // What figures count of a class, and of all together: variables, those of them that are flexible, fixed ones, entries and renamings.
-#[derive(Drop)]
+#[derive(Clone, Copy)]
 pub struct Counted {
     pub vars: usize,
     pub flex: usize,
@@ -43,7 +43,7 @@ impl Counted {
 }
 
 // What is at hand then, and what figures count; or why a class is not made.
-#[derive(Drop)]
+#[derive(Clone, Copy)]
 pub enum ClassMade {
     Made(Building, Counted),
     Refused(Refusal),

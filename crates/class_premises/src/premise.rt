@@ -24,7 +24,7 @@ use term_lift::lift::Lifted;
 
 // What the premises that are taken come to: the graph and the copies' memo as they are then, the word of the rule behind them, and how
 // many variables of copies are noted.
-#[derive(Drop)]
+#[derive(Clone, Copy)]
 pub struct Reached {
     pub graph: Graph,
     pub memo: Memo,
@@ -33,7 +33,7 @@ pub struct Reached {
 }
 
 // What is reached with the premise, and its instance; or why it is refused.
-#[derive(Drop)]
+#[derive(Clone, Copy)]
 pub enum Taken {
     On(Reached, Node),
     Refused(Refusal),
@@ -41,7 +41,7 @@ pub enum Taken {
 
 // A step, its rule and how many variables that has; where the row of the ref's class stands in the class buffer; the word of the rule
 // that the premise starts with; how many variables of copies are noted.
-#[derive(Drop)]
+#[derive(Clone, Copy)]
 pub struct Premise {
     pub step: usize,
     pub rule: usize,
@@ -52,7 +52,7 @@ pub struct Premise {
 }
 
 // A fresh copy: its node, how many words for variables it has, and the copies' memo with it.
-#[derive(Drop)]
+#[derive(Clone, Copy)]
 pub struct Fresh {
     pub node: Node,
     pub variables: usize,

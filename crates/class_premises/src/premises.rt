@@ -12,7 +12,7 @@ use graph::graph::Graph;
 use pack_read::step::step_ref;
 
 // The step that makes a class: its rule, how many variables that has, how many premises.
-#[derive(Drop)]
+#[derive(Clone, Copy)]
 pub struct Ruling {
     pub step: usize,
     pub rule: usize,
@@ -21,7 +21,7 @@ pub struct Ruling {
 }
 
 // What is reached with all premises, whose words end where the rule's conclusion starts; or why one is refused.
-#[derive(Drop)]
+#[derive(Clone, Copy)]
 pub enum Premised {
     On(Reached),
     Refused(Refusal),

@@ -7,7 +7,7 @@ use crate::layout::Layout;
 use base::id::Pattern;
 
 // A row's words: "conclusion, instance count, variable count, flex marks".
-#[derive(Drop)]
+#[derive(Clone, Copy)]
 pub struct Row(pub usize);
 
 impl Row {

@@ -19,7 +19,7 @@ use store::nodes::Store;
 use term_instantiate::count::count_up;
 
 // The graph and the store as they are then, and what was read; or why it is refused.
-#[derive(Drop)]
+#[derive(Clone, Copy)]
 enum Ended {
     Read(Graph, Store, Concluded),
     Refused(Refusal),

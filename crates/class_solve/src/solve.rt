@@ -17,7 +17,7 @@ use term_values::fix::Fixed;
 use term_values::values::Valued;
 
 // What is reached with all premises, whose graph has its values; or why they are refused.
-#[derive(Drop)]
+#[derive(Clone, Copy)]
 pub enum Solved {
     On(Reached),
     Refused(Refusal),

@@ -2,7 +2,7 @@
 #![tactic(auto)]
 
 // The refusals of document 01's table, in its order; each but the ninth with its place.
-#[derive(Drop)]
+#[derive(Clone, Copy)]
 pub enum Refusal {
     // 1: a record cut, misordered or against its form; its byte offset
     Form(u64),
@@ -29,7 +29,7 @@ pub enum Refusal {
 }
 
 // Document 01's buffers: "1 class, 2 pattern, 3 graph, 4 work, 5 proof or shown text, 6 goals".
-#[derive(Drop)]
+#[derive(Clone, Copy)]
 pub struct Buffer(pub u64);
 
 impl Buffer {
@@ -48,7 +48,7 @@ impl Buffer {
 
 // A number of document 01's table with its place; 0 and 0 for an answer.
 #[repr(C)]
-#[derive(Drop)]
+#[derive(Clone, Copy)]
 pub struct Answer {
     pub code: u64,
     pub place: u64,
@@ -56,7 +56,7 @@ pub struct Answer {
 
 // The figures of class building, as document 01 counts them; the last four are the histogram's slots.
 #[repr(C)]
-#[derive(Drop)]
+#[derive(Clone, Copy)]
 pub struct Figures {
     pub steps: u64,
     pub classes: u64,

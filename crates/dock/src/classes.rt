@@ -12,7 +12,7 @@ use dock_call::leave::{clear, no_figures};
 
 // A number of document 01's table with its place, and the figures.
 #[repr(C)]
-#[derive(Drop)]
+#[derive(Clone, Copy)]
 pub struct ClassesAnswer {
     pub code: u64,
     pub place: u64,

@@ -14,7 +14,7 @@ use text_goals::show::Answer as Shown;
 
 // A number of document 01's table with its place, how many bytes of text there are, and the figures.
 #[repr(C)]
-#[derive(Drop)]
+#[derive(Clone, Copy)]
 pub struct ShowAnswer {
     pub code: u64,
     pub place: u64,

@@ -6,7 +6,7 @@ ghost use Rattle.dock_call.specs.Outcome.{refusal_of};
 use definition::{Answer, Refusal};
 
 // Done, or refused.
-#[derive(Drop)]
+#[derive(Clone, Copy)]
 pub enum Outcome {
     Done,
     Refused(Refusal),

@@ -9,7 +9,7 @@ use base::limit::Limit;
 use definition::{Buffer, Refusal};
 
 // The lent lengths, 0 for one not lent.
-#[derive(Drop)]
+#[derive(Clone, Copy)]
 pub struct Lent {
     pub pack: usize,
     pub class: usize,

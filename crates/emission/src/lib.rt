@@ -3,7 +3,7 @@
 
 // What emission counts: goals written open, goals written ground; step, hyp and induct lines; induct lines; def lines.
 #[repr(C)]
-#[derive(Drop)]
+#[derive(Clone, Copy)]
 pub struct Emitted {
     pub open_goals: u64,
     pub rigid_goals: u64,

@@ -19,7 +19,7 @@ use emit_state::places::Places;
 use emit_state::standing::{Proved, Standing};
 
 // So many numbers of cases with the state; no proof of one of them; or a short buffer.
-#[derive(Drop)]
+#[derive(Clone, Copy)]
 pub enum Cases {
     All(Standing, usize),
     Fails(Standing),
@@ -27,7 +27,7 @@ pub enum Cases {
 }
 
 // The numbers of cases: so many for one at most, its last line, how many variables it has, and these.
-#[derive(Drop)]
+#[derive(Clone, Copy)]
 pub struct Numbers(pub usize);
 
 impl Numbers {

@@ -9,7 +9,7 @@ use emit_state::places::Places;
 use emit_state::standing::{Proved, Standing};
 
 // What is proved by induction: L's pattern and sort, and the judgment.
-#[derive(Drop)]
+#[derive(Clone, Copy)]
 pub struct Inducting {
     pub eigen: u32,
     pub sort: u32,
@@ -17,7 +17,7 @@ pub struct Inducting {
 }
 
 // "below depth 4,096": a case is chained at depth 1.
-#[derive(Drop)]
+#[derive(Clone, Copy)]
 pub struct Level(pub u32);
 
 impl Level {

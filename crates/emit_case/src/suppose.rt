@@ -17,14 +17,14 @@ use emit_words::state::write_hyp;
 use memo::part::clear;
 
 // The pattern that is supposed, with the state; or a short buffer.
-#[derive(Drop)]
+#[derive(Clone, Copy)]
 pub enum Hypothesis {
     Of(Standing, u32),
     Refused(Refusal),
 }
 
 // The hypotheses are entered, or a buffer is short.
-#[derive(Drop)]
+#[derive(Clone, Copy)]
 pub enum Hypotheses {
     All(Standing),
     Refused(Refusal),

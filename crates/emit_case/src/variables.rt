@@ -17,14 +17,14 @@ use emit_state::standing::Standing;
 use pack_read::symbol::{symbol_arity, symbol_input};
 
 // The variables of a case with the state, and how many; or a short buffer.
-#[derive(Drop)]
+#[derive(Clone, Copy)]
 pub enum Made {
     All(Standing, usize),
     Refused(Refusal),
 }
 
 // The numbers of case variables' patterns: "case variable k is 2^31 - 1 + k".
-#[derive(Drop)]
+#[derive(Clone, Copy)]
 pub struct Case(pub u32);
 
 impl Case {

@@ -8,7 +8,7 @@ ghost use Rattle.emit_chains.specs.Places.{firsts, links, Within};
 use buffer::zero::zero_words;
 
 // Where chains stand in work. A word of theirs is 0 or a number and one: the first of a key's chain, and the one behind a number.
-#[derive(Drop)]
+#[derive(Clone, Copy)]
 pub struct Chains {
     // Where the chains' first words start.
     pub first: usize,

@@ -10,7 +10,7 @@ use store::nodes::Store;
 // By few numbers: behind the pack's tables the store's index, and anywhere behind that, one behind the other: a mark, a conclusion and a
 // line of each step; the stack of `lower_pattern` and the nodes that wait there; what ground nodes were lowered to, and the stack of
 // `lower`; the graph's table; what nodes were raised to, and the way to where `raise` is; the uses of cut judgments, and those still open.
-#[derive(Drop)]
+#[derive(Clone, Copy)]
 pub struct Global {
     pub catalog: Catalog,
     // Where the store's index starts.

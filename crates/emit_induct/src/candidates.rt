@@ -19,7 +19,7 @@ use emit_state::places::Places;
 use emit_state::standing::{Proved, Standing};
 
 // What an output is chosen for: L's pattern and sort, and the judgment's predicate.
-#[derive(Drop)]
+#[derive(Clone, Copy)]
 pub struct Output {
     pub eigen: u32,
     pub sort: u32,
@@ -27,7 +27,7 @@ pub struct Output {
 }
 
 // The candidate that proves, with the state; none that does; or a short buffer.
-#[derive(Drop)]
+#[derive(Clone, Copy)]
 pub enum Chosen {
     At(Standing, u32),
     Nothing(Standing),

@@ -12,7 +12,7 @@ use crate::list::{put_gap, put_variables};
 use text_write::put::{put_byte, put_number};
 
 // Where a case starts.
-#[derive(Drop)]
+#[derive(Clone, Copy)]
 pub struct Case(pub usize);
 
 impl Case {

@@ -11,7 +11,7 @@ use text_write::name::put_symbol;
 use text_write::put::put_byte;
 
 // A word of a line as one number: a constant by its symbol, a definition, or a variable, where 0 is L.
-#[derive(Drop)]
+#[derive(Clone, Copy)]
 pub struct Word(pub u32);
 
 impl Word {
@@ -22,7 +22,7 @@ impl Word {
 }
 
 // What lines are written by: the pack's tables, and L's name as its number of underscores.
-#[derive(Drop)]
+#[derive(Clone, Copy)]
 pub struct Hand {
     pub catalog: Catalog,
     pub name: u32,

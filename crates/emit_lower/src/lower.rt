@@ -20,7 +20,7 @@ use memo::part::{get, put};
 use pack_read::node::{node_argument, node_arity, node_head};
 
 // So many frames stand on the stack, and the graph as it is then; or there is no room for a node.
-#[derive(Drop)]
+#[derive(Clone, Copy)]
 enum Turn {
     On(usize, Graph),
     Short,

@@ -6,7 +6,7 @@ ghost use Rattle.emit_maps.specs.Holds.{Looks, Begins};
 use buffer::zero::zero_words;
 
 // Where the maps stand in work, one behind the other, and behind them the trail. A map's word is 0, or a number and one.
-#[derive(Drop)]
+#[derive(Clone, Copy)]
 pub struct Maps {
     // Where the first map starts.
     pub at: usize,
@@ -15,7 +15,7 @@ pub struct Maps {
 }
 
 // What a map has for a pattern.
-#[derive(Drop)]
+#[derive(Clone, Copy)]
 pub enum Recall {
     Number(u32),
     Nothing,

@@ -3,7 +3,7 @@ use pack_tables::catalog::Catalog;
 use store::nodes::Store;
 
 // What is matched, and where in work: the values and the stack stand behind the tables and the store's index.
-#[derive(Drop)]
+#[derive(Clone, Copy)]
 pub struct Matching {
     // The pack's tables.
     pub catalog: Catalog,

@@ -10,7 +10,7 @@ use base::stack::{Popped, Stack};
 use pack_read::rule::rule_word;
 
 // A word was matched, and these patterns are left; none was left; or something differs.
-#[derive(Drop)]
+#[derive(Clone, Copy)]
 pub enum Turn {
     Next(Stack),
     Done,

@@ -16,7 +16,7 @@ use store::nodes::Store;
 
 // Where the walk has its tables in work: the store's index, the nodes that were met and are still to be taken (a word each), the nodes
 // met (a memo of two words each, up to `past`), and a mark for each variable.
-#[derive(Drop)]
+#[derive(Clone, Copy)]
 pub struct Opening {
     pub index: usize,
     pub stack: usize,

@@ -13,7 +13,7 @@ use pack_read::rule::rule_vars;
 use store::nodes::Store;
 
 // The premises are all built; a variable has no value; or there is no room for a node.
-#[derive(Drop)]
+#[derive(Clone, Copy)]
 pub enum Built {
     All(Store),
     Lacks(Store),

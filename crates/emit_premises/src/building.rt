@@ -6,7 +6,7 @@ use base::limit::Limit;
 use store::nodes::Store;
 
 // What was made so far, and where: the open symbols stand on a stack, one behind the other.
-#[derive(Drop)]
+#[derive(Clone, Copy)]
 pub struct Building {
     // The patterns.
     pub store: Store,
@@ -20,7 +20,7 @@ pub struct Building {
 
 // The words of an open symbol: where the one around it starts, where the patterns of its terms end once all are there, its head, and these
 // patterns.
-#[derive(Drop)]
+#[derive(Clone, Copy)]
 pub struct Opening(pub usize);
 
 impl Opening {

@@ -13,7 +13,7 @@ use pack_tables::catalog::Catalog;
 use store::nodes::Interned;
 
 // The next state; the premises are all built; a variable has no value; or there is no room for a node.
-#[derive(Drop)]
+#[derive(Clone, Copy)]
 pub enum Turn {
     Next(Building),
     Full,

@@ -14,7 +14,7 @@ use memo::memo::Memo;
 use store::nodes::Store;
 
 // The value of a pattern in which the one asked for stands, and that of others.
-#[derive(Drop)]
+#[derive(Clone, Copy)]
 struct Mark(u32);
 
 impl Mark {
@@ -24,7 +24,7 @@ impl Mark {
 }
 
 // The next pattern, and those that wait behind it; or what the last one's value is.
-#[derive(Drop)]
+#[derive(Clone, Copy)]
 enum Told {
     On(u32, Stack),
     Done(u32),

@@ -19,14 +19,14 @@ use memo::memo::Memo;
 use store::nodes::{Interned, Store};
 
 // What a pattern is replaced by, with the state; or a refusal, which is a short buffer.
-#[derive(Drop)]
+#[derive(Clone, Copy)]
 pub enum Replaced {
     As(Standing, u32),
     Refused(Refusal),
 }
 
 // The store, the next pattern, and those that wait behind it; or the store and the last one's value; or that there is no room for a node.
-#[derive(Drop)]
+#[derive(Clone, Copy)]
 enum Turn {
     On(Store, u32, Stack),
     Done(Store, u32),

@@ -9,14 +9,14 @@ use memo::memo::{Known, Memo};
 use store::nodes::Store;
 
 // The first argument that has no value, or that all have one.
-#[derive(Drop)]
+#[derive(Clone, Copy)]
 pub enum Next {
     Argument(u32),
     Ripe,
 }
 
 // A pattern that is reached, and those that wait for it.
-#[derive(Drop)]
+#[derive(Clone, Copy)]
 pub struct Reached {
     pub pattern: u32,
     pub under: Stack,

@@ -7,7 +7,7 @@ use memo::memo::{Known, Memo};
 use memo::part::{get, put};
 
 // How deep a proof goes: "`prove` fails below depth 4,096".
-#[derive(Drop)]
+#[derive(Clone, Copy)]
 pub struct Depth(pub u32);
 
 impl Depth {

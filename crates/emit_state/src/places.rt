@@ -12,7 +12,7 @@ use store::nodes::Store;
 // Where they stand, by few numbers: behind the pack's tables the store's index, and anywhere behind that, one behind the other, the maps
 // with their trail, the failures, what was put for L, the walk's stack, a rule's values, the patterns that wait to be matched, and the
 // chains of rules and constructors.
-#[derive(Drop)]
+#[derive(Clone, Copy)]
 pub struct Places {
     // The pack's tables and L's name.
     pub hand: Hand,

@@ -7,7 +7,7 @@ use memo::memo::Memo;
 use store::nodes::Store;
 
 // What the state has beside the words in the buffers.
-#[derive(Drop)]
+#[derive(Clone, Copy)]
 pub struct Standing {
     // The patterns.
     pub store: Store,
@@ -50,7 +50,7 @@ impl Standing {
 }
 
 // What a search comes to: a line, or none, with the state; or a refusal, which is a short buffer.
-#[derive(Drop)]
+#[derive(Clone, Copy)]
 pub enum Proved {
     Line(Standing, u32),
     Fails(Standing),

@@ -16,7 +16,7 @@ use emit_state::places::Places;
 use emit_state::standing::Standing;
 
 // A definition was written; or the text is short.
-#[derive(Drop)]
+#[derive(Clone, Copy)]
 pub enum Defined {
     Line(Standing),
     Short,

@@ -9,14 +9,14 @@ use emit_state::places::Places;
 use emit_state::standing::Standing;
 
 // The first argument without a word, or that there is none.
-#[derive(Drop)]
+#[derive(Clone, Copy)]
 pub enum Lacking {
     Argument(u32),
     Nothing,
 }
 
 // The head of a pattern, and how many arguments it has.
-#[derive(Drop)]
+#[derive(Clone, Copy)]
 pub struct Said {
     pub head: u32,
     pub many: usize,

@@ -12,7 +12,7 @@ use emit_state::places::Places;
 use emit_state::standing::Standing;
 
 // A word as its number, or that there is none.
-#[derive(Drop)]
+#[derive(Clone, Copy)]
 pub enum Spelt {
     Number(u32),
     Nothing,

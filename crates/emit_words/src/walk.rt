@@ -14,7 +14,7 @@ use emit_state::places::Places;
 use emit_state::standing::Standing;
 
 // A turn was taken, and these patterns wait; none waits, and all arguments have words; or the text is short.
-#[derive(Drop)]
+#[derive(Clone, Copy)]
 pub enum Turn {
     Next(Standing, Stack),
     Done,
@@ -22,7 +22,7 @@ pub enum Turn {
 }
 
 // All arguments have words; or the text is short.
-#[derive(Drop)]
+#[derive(Clone, Copy)]
 pub enum Named {
     All(Standing),
     Short,

@@ -12,14 +12,14 @@ use base::copy::copy_words;
 use base::id::{Ground, Node, Pattern};
 
 // How many nodes there are, and how many cells they take.
-#[derive(Drop)]
+#[derive(Clone, Copy)]
 pub struct Graph {
     pub nodes: usize,
     pub used: usize,
 }
 
 // A node more: its number and the graph with it, or that there is no room for it.
-#[derive(Drop)]
+#[derive(Clone, Copy)]
 pub enum Pushed {
     At(Node, Graph),
     Short,

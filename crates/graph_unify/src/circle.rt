@@ -11,7 +11,7 @@ use graph::graph::Graph;
 use graph::places::{colours_at, pairs_at};
 
 // What a walk knows of a node.
-#[derive(Drop)]
+#[derive(Clone, Copy)]
 pub struct Colour(pub u32);
 
 impl Colour {
@@ -24,7 +24,7 @@ impl Colour {
 }
 
 // What an argument comes to: its term ends, it stands on top of the path, or it stood on the path before.
-#[derive(Drop)]
+#[derive(Clone, Copy)]
 enum Seen {
     Ends,
     Deeper,
@@ -32,7 +32,7 @@ enum Seen {
 }
 
 // So many nodes stand on the path, or there is a circle.
-#[derive(Drop)]
+#[derive(Clone, Copy)]
 enum Turn {
     On(usize),
     Circle,

@@ -8,7 +8,7 @@ use base::id::{Node, Pattern};
 use graph::graph::Graph;
 
 // These pairs are left to be taken, or the two clash.
-#[derive(Drop)]
+#[derive(Clone, Copy)]
 pub enum Met {
     On(Pairs),
     Clash,

@@ -11,7 +11,7 @@ use graph::graph::Graph;
 use graph::places::pairs_at;
 
 // So many pairs, and the nodes of the last one if there is one. It is on the stack too; here it need not be waited for.
-#[derive(Drop)]
+#[derive(Clone, Copy)]
 pub struct Pairs {
     pub top: usize,
     pub left: Node,

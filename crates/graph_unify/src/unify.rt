@@ -11,7 +11,7 @@ use graph::graph::Graph;
 use graph::places::pairs_at;
 
 // The two are joined, or clash; and how many pairs were taken.
-#[derive(Drop)]
+#[derive(Clone, Copy)]
 pub enum Outcome {
     Joined(usize),
     Clash(usize),

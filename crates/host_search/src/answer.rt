@@ -10,7 +10,7 @@ use emit_state::standing::Proved;
 
 // The answer: 0 and 0 with a line's number and one, or 0 for none, and the text's length; or a refusal's number and place, with 0 and 0.
 #[repr(C)]
-#[derive(Drop)]
+#[derive(Clone, Copy)]
 pub struct Searched {
     pub code: u64,
     pub place: u64,
@@ -24,7 +24,7 @@ impl Searched {
 }
 
 // A line's number and one, or 0, with the text's end; or a refusal's number and place.
-#[derive(Drop)]
+#[derive(Clone, Copy)]
 pub enum Sought {
     Told(u64, usize),
     Refused(u64, u64),

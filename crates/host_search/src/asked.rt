@@ -9,7 +9,7 @@ use pack_read::node::node_sort;
 use pack_tables::catalog::Catalog;
 
 // A judgment, by its ground node; at what depth the search for it begins; and L's name as its number of underscores.
-#[derive(Drop)]
+#[derive(Clone, Copy)]
 pub struct Query {
     pub node: u32,
     pub depth: u32,

@@ -12,7 +12,7 @@ use term_lift::intern::intern_key;
 use term_lift::lift::{Lifted, lift};
 
 // L's variable.
-#[derive(Drop)]
+#[derive(Clone, Copy)]
 pub struct Eigen(pub u32);
 
 impl Eigen {

@@ -13,14 +13,14 @@ use store::nodes::{Interned, Store};
 
 // The answer: 0 done, 2 lengths that do not fit, 8 short; and how many nodes the store has, 0 unless done.
 #[repr(C)]
-#[derive(Drop)]
+#[derive(Clone, Copy)]
 pub struct Tried {
     pub code: u64,
     pub nodes: u64,
 }
 
 // After a turn: the store with a node more and where that node ends, or no node was left, or there is no room for it.
-#[derive(Drop)]
+#[derive(Clone, Copy)]
 enum Turn {
     Next(Store, usize),
     End,
@@ -28,7 +28,7 @@ enum Turn {
 }
 
 // After all turns: the store and how many numbers are written, or there was no room.
-#[derive(Drop)]
+#[derive(Clone, Copy)]
 enum Run {
     Done(Store, usize),
     Short,

@@ -20,7 +20,7 @@ use graph_unify::unify::{Outcome, unify};
 
 // The answer: 0 joined, 1 a clash, 2 no such list or no such node, 3 lengths that do not fit; how many pairs were taken, and 1 if there is a circle.
 #[repr(C)]
-#[derive(Drop)]
+#[derive(Clone, Copy)]
 pub struct Unification {
     pub code: u64,
     pub taken: u64,
@@ -28,7 +28,7 @@ pub struct Unification {
 }
 
 // After a turn: the graph with a node more and where that node ends, or the words there are no node, or there is no room for it.
-#[derive(Drop)]
+#[derive(Clone, Copy)]
 enum Turn {
     Next(Graph, usize),
     Broken,
@@ -36,7 +36,7 @@ enum Turn {
 }
 
 // After all turns: the graph, or what stopped them.
-#[derive(Drop)]
+#[derive(Clone, Copy)]
 enum Read {
     Whole(Graph),
     Broken,

@@ -11,7 +11,7 @@ use store::nodes::Store;
 // The answer: 0 with a pattern's number, how many variables are numbered and how many cells the graph has; or a refusal's number and
 // place, with 0 and 0.
 #[repr(C)]
-#[derive(Drop)]
+#[derive(Clone, Copy)]
 pub struct Walked {
     pub code: u64,
     pub at: u64,
@@ -20,7 +20,7 @@ pub struct Walked {
 }
 
 // A pattern of a store, with so many variables numbered, of a graph of so many cells; or a refusal's number and place.
-#[derive(Drop)]
+#[derive(Clone, Copy)]
 pub enum Walk {
     Done(Pattern, Store, usize, usize),
     Refused(u64, u64),

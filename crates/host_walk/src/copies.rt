@@ -30,7 +30,7 @@ use term_lift::lift::Lifted;
 use term_readback::table::Table;
 
 // The last copy's node and the graph, or that the cells have no room.
-#[derive(Drop)]
+#[derive(Clone, Copy)]
 pub enum Times {
     Made(Node, Graph),
     Short,

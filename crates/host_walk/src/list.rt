@@ -14,7 +14,7 @@ use term_lift::intern::intern_key;
 use term_lift::lift::Lifted;
 
 // After a turn: the store with a node more and where that node ends, or the words there are no pattern, or there is no room for it.
-#[derive(Drop)]
+#[derive(Clone, Copy)]
 enum Turn {
     Next(Store, usize),
     Broken,
@@ -22,7 +22,7 @@ enum Turn {
 }
 
 // After all turns: the store, or what stopped them.
-#[derive(Drop)]
+#[derive(Clone, Copy)]
 pub enum Listed {
     Whole(Store),
     Broken,

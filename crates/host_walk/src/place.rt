@@ -9,7 +9,7 @@ use store::nodes::Store;
 use term_lift::lift::Lifted;
 
 // A store of patterns, with the pack's tables and lifting's.
-#[derive(Drop)]
+#[derive(Clone, Copy)]
 pub struct Stock {
     pub catalog: Catalog,
     pub lifted: Lifted,

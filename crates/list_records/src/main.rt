@@ -9,7 +9,7 @@ ghost use Rattle.list_records.specs.Added.{Added};
 use buffer::decimal::Put;
 
 // A record of a pack: cut, or whole with its kind and the length of its body.
-#[derive(Drop)]
+#[derive(Clone, Copy)]
 enum Record {
     Cut,
     Whole(u32, usize),

@@ -5,13 +5,13 @@ ghost use Rattle.memo.specs.Recall.{recall, Remembers, known};
 
 use buffer::zero::zero_words;
 
-#[derive(Drop)]
+#[derive(Clone, Copy)]
 pub struct Memo {
     pub stamp: u32,
 }
 
 // What a memo has for a key.
-#[derive(Drop)]
+#[derive(Clone, Copy)]
 pub enum Known {
     Value(u32),
     Nothing,

@@ -19,7 +19,7 @@ use pack_tables::catalog::Catalog;
 use pack_tables::header::{Header, Kind};
 
 // Behind a record: where it ends, counted from its first byte, and its kind; or the record is against its form, or over a limit.
-#[derive(Drop)]
+#[derive(Clone, Copy)]
 pub enum Next {
     At(usize, u32),
     Bad,

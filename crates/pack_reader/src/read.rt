@@ -10,7 +10,7 @@ use pack_tables::catalog::Catalog;
 use pack_tables::unread::Unread;
 
 // What reading a pack gives: tables that represent it, or the first bad record's refusal.
-#[derive(Drop)]
+#[derive(Clone, Copy)]
 pub enum Parsed {
     Fine,
     Form(usize),

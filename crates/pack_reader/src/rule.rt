@@ -18,7 +18,7 @@ use pack_tables::region::Entered;
 use pack_tables::row::all_below;
 
 // A rule's variables and premises: so many, and each variable of a sort; against the form; or too many.
-#[derive(Drop)]
+#[derive(Clone, Copy)]
 pub enum Count {
     Terms(usize, usize),
     Wrong,
@@ -26,7 +26,7 @@ pub enum Count {
 }
 
 // A rule's body: good but for its name, which starts here and may be taken; against its form; or over a limit.
-#[derive(Drop)]
+#[derive(Clone, Copy)]
 pub enum Form {
     Name(usize),
     Wrong,

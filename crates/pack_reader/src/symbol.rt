@@ -15,7 +15,7 @@ use pack_tables::region::Entered;
 use pack_tables::row::all_below;
 
 // A symbol's body: good but for its name, which starts here and may be taken; against its form; or of too many inputs.
-#[derive(Drop)]
+#[derive(Clone, Copy)]
 pub enum Shape {
     Name(usize),
     Wrong,

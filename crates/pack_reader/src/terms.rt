@@ -19,7 +19,7 @@ use pack_tables::row::word;
 
 // How far the reading is: the next word's place in the body, how many words were read, how many frames there are, and how many
 // judgments are still to be read.
-#[derive(Drop)]
+#[derive(Clone, Copy)]
 pub struct Point {
     pub at: usize,
     pub read: usize,
@@ -28,7 +28,7 @@ pub struct Point {
 }
 
 // What reading a word comes to: the next point, or how the reading ends.
-#[derive(Drop)]
+#[derive(Clone, Copy)]
 enum Turn {
     Next(Point),
     End,
@@ -37,7 +37,7 @@ enum Turn {
 }
 
 // How the reading ended: at a place of the body, against the form, or over a limit.
-#[derive(Drop)]
+#[derive(Clone, Copy)]
 pub enum Terms {
     End(usize),
     Bad,
@@ -45,7 +45,7 @@ pub enum Terms {
 }
 
 // The sort of the next term, or that none is wanted.
-#[derive(Drop)]
+#[derive(Clone, Copy)]
 enum Want {
     Sort(u32, Point),
     Done,

@@ -6,7 +6,7 @@ ghost use Rattle.pack_tables.specs.Catalog.{start_of, cap_of, records_of, keyed_
 use crate::region::{Entered, Region, Sought};
 
 // Where the first region starts, and for how many records each has room at most.
-#[derive(Drop)]
+#[derive(Clone, Copy)]
 pub struct Catalog {
     pub at: usize,
     pub cap: usize,

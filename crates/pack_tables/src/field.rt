@@ -1,6 +1,6 @@
 // Where the fields of a record stand in its body, in bytes: "all fields little-endian, u32 unless said".
 
-#[derive(Drop)]
+#[derive(Clone, Copy)]
 pub struct Field(pub usize);
 
 impl Field {

@@ -4,7 +4,7 @@ ghost use Rattle.pack_tables.specs.Header.{HeadsFirst};
 use buffer::little::{u16_at, u32_at};
 
 // A record's kind and where its body ends, counted from the record's first byte; or that it is cut, of no kind, or out of order.
-#[derive(Drop)]
+#[derive(Clone, Copy)]
 pub enum Header {
     Whole(u32, usize),
     Bad,
@@ -18,7 +18,7 @@ impl Header {
 }
 
 // Document 01's kinds of records, by their numbers.
-#[derive(Drop)]
+#[derive(Clone, Copy)]
 pub struct Kind(pub u32);
 
 impl Kind {

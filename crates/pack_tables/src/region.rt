@@ -14,28 +14,28 @@ use buffer::little::u32_at;
 use buffer::zero::zero_words;
 
 // Where a search for a key ends: at the slot that holds it, or at the first free one.
-#[derive(Drop)]
+#[derive(Clone, Copy)]
 enum Slot {
     Found(usize),
     Free(usize),
 }
 
 // The number of the record that has a key, or that none has it.
-#[derive(Drop)]
+#[derive(Clone, Copy)]
 pub enum Sought {
     At(usize),
     Nowhere,
 }
 
 // A record put behind the others, or one whose key is there already.
-#[derive(Drop)]
+#[derive(Clone, Copy)]
 pub enum Entered {
     New,
     Old,
 }
 
 // A region's words: how many records there are; two for each, where it stands and where its key starts; the slots of a probe table.
-#[derive(Drop)]
+#[derive(Clone, Copy)]
 pub struct Region(pub usize);
 
 impl Region {

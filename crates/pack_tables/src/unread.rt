@@ -5,7 +5,7 @@ ghost use Rattle.pack_tables.specs.Header.{HeadsFirst};
 use crate::header::{Header, header_of};
 
 // The unread tail of a pack, and the kind of the record ahead of it.
-#[derive(Drop)]
+#[derive(Clone, Copy)]
 pub struct Unread<'a> {
     pub tail: &'a [u8],
     pub last: u32,

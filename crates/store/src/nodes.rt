@@ -15,7 +15,7 @@ use base::same::same_words;
 use buffer::zero::zero_words;
 
 // How many nodes there are, how many words they take, and below what their hashes are.
-#[derive(Drop)]
+#[derive(Clone, Copy)]
 pub struct Store {
     pub len: usize,
     pub used: usize,
@@ -23,14 +23,14 @@ pub struct Store {
 }
 
 // Where a search for a key ends: at the slot that holds it, or at the first free one.
-#[derive(Drop)]
+#[derive(Clone, Copy)]
 enum Slot {
     Found(usize),
     Free(usize),
 }
 
 // A node's number and the store that has it, or that it is new and there is no room for it.
-#[derive(Drop)]
+#[derive(Clone, Copy)]
 pub enum Interned {
     Id(Pattern, Store),
     Short,

@@ -17,14 +17,14 @@ use memo::memo::{Known, Memo};
 use store::nodes::Store;
 
 // The node that the pattern was copied to, the graph with it and the memo as it is then; or that the cells have no room.
-#[derive(Drop)]
+#[derive(Clone, Copy)]
 pub enum Copied {
     At(Node, Graph, Memo),
     Short,
 }
 
 // So many frames stand on the stack, and the graph as it is then; or the cells have no room.
-#[derive(Drop)]
+#[derive(Clone, Copy)]
 pub enum Turn {
     On(usize, Graph),
     Short,

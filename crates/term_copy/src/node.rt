@@ -17,7 +17,7 @@ use memo::memo::{Known, Memo};
 
 // Where copying has its tables in work: the store's index; what pattern nodes were copied to, a memo of two words each; the walk's
 // stack, two words for each; a word for each variable of the class, its graph node and one or 0; the graph's table.
-#[derive(Drop)]
+#[derive(Clone, Copy)]
 pub struct Copying {
     pub index: usize,
     pub copied: usize,

@@ -18,14 +18,14 @@ use pack_tables::catalog::Catalog;
 use store::nodes::Store;
 
 // The node is an instance, with the two memos as they are then; or it is none.
-#[derive(Drop)]
+#[derive(Clone, Copy)]
 pub enum Matched {
     Yes(Memo, Memo),
     No,
 }
 
 // So many pairs are left to be taken, or something differs.
-#[derive(Drop)]
+#[derive(Clone, Copy)]
 enum Turn {
     On(usize),
     Unlike,

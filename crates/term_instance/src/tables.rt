@@ -9,7 +9,7 @@ use store::nodes::Store;
 
 // Where the instance test has its tables in work: the store's index, the worklist (two words a pair), what pattern nodes were matched
 // with (a memo of two words each), and the values of variables (a memo of two words each).
-#[derive(Drop)]
+#[derive(Clone, Copy)]
 pub struct Instance {
     pub index: usize,
     pub pairs: usize,
@@ -20,7 +20,7 @@ pub struct Instance {
 
 // What the instance test has at hand: the pack's tables, its own, the store, and the memos of what pattern nodes were matched with and of
 // variables' values.
-#[derive(Drop)]
+#[derive(Clone, Copy)]
 pub struct Test {
     pub catalog: Catalog,
     pub tables: Instance,

@@ -10,7 +10,7 @@ use pack_read::symbol::symbol_arity;
 use pack_tables::catalog::Catalog;
 
 // The rule, how many variables it has, and where the graph's table stands in work.
-#[derive(Drop)]
+#[derive(Clone, Copy)]
 pub struct Place {
     pub rule: usize,
     pub vars: usize,
@@ -19,7 +19,7 @@ pub struct Place {
 }
 
 // The stack's top and the graph behind a word, or that there is no room for its node.
-#[derive(Drop)]
+#[derive(Clone, Copy)]
 enum Taken {
     On(usize, Graph),
     Short,

@@ -7,7 +7,7 @@ use pack_read::rule::rule_var;
 use pack_tables::catalog::Catalog;
 
 // The graph with the variables, or that there is no room for them.
-#[derive(Drop)]
+#[derive(Clone, Copy)]
 pub enum Opened {
     On(Graph),
     Short,

@@ -15,7 +15,7 @@ use store::nodes::{Interned, Store};
 
 // Where lifting has its tables in work: a word for each ground node, its pattern and one or 0; behind them the walk's stack, two words
 // for each; then the store's index, up to `end`.
-#[derive(Drop)]
+#[derive(Clone, Copy)]
 pub struct Lifted {
     pub at: usize,
     pub nodes: usize,
@@ -23,7 +23,7 @@ pub struct Lifted {
 }
 
 // So many frames stand on the stack, and the store as it is then; or there is no room for a node.
-#[derive(Drop)]
+#[derive(Clone, Copy)]
 enum Turn {
     On(usize, Store),
     Short,

@@ -16,7 +16,7 @@ use graph::places::{pairs_at, patterns_at};
 use store::nodes::Store;
 
 // So many frames stand on the stack, the store as it is then, and so many variables are numbered; or there is no room for a node.
-#[derive(Drop)]
+#[derive(Clone, Copy)]
 enum Turn {
     On(usize, Store, usize),
     Short,

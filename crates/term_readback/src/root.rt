@@ -13,7 +13,7 @@ use term_lift::intern::intern_key;
 use term_lift::lift::{Lifted, lift};
 
 // What was read: the pattern, the store with it, and how many variables are numbered; or that the words have no room.
-#[derive(Drop)]
+#[derive(Clone, Copy)]
 pub enum Resolved {
     Read(Pattern, Store, usize),
     Short,

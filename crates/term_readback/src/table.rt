@@ -13,7 +13,7 @@ use term_lift::lift::Lifted;
 
 // Where the graph's table stands in work: rows, behind them the pairs, here the walk's stack, behind these a colour for each node, then
 // for each its ground value and one or 0, then the pattern that it was read back as and one or 0, then the variable of each number.
-#[derive(Drop)]
+#[derive(Clone, Copy)]
 pub struct Table {
     pub at: usize,
     pub end: usize,
@@ -21,7 +21,7 @@ pub struct Table {
 
 // What reading back has at hand: where the pack's tables, lifting's and the graph's stand, the graph, and whether all its variables get a
 // number.
-#[derive(Drop)]
+#[derive(Clone, Copy)]
 pub struct Reading {
     pub catalog: Catalog,
     pub lifted: Lifted,

@@ -16,14 +16,14 @@ use pack_read::node::{node_argument, node_arity, node_head};
 use pack_tables::catalog::Catalog;
 
 // All have their values, or something differs.
-#[derive(Drop)]
+#[derive(Clone, Copy)]
 pub enum Fixed {
     Done,
     Differs,
 }
 
 // So many pairs are left to be taken, or something differs.
-#[derive(Drop)]
+#[derive(Clone, Copy)]
 enum Turn {
     On(usize),
     Unlike,

@@ -13,14 +13,14 @@ use graph::places::{pairs_at, values_at};
 
 // Where the graph's table stands in work: rows, behind them the pairs, behind these a colour for each node, and behind these a word
 // for each node, its ground value and one or 0.
-#[derive(Drop)]
+#[derive(Clone, Copy)]
 pub struct Valued {
     pub at: usize,
     pub end: usize,
 }
 
 // A node's ground value, or that it has none.
-#[derive(Drop)]
+#[derive(Clone, Copy)]
 pub enum Known {
     Is(Ground),
     Nothing,

@@ -7,7 +7,7 @@ use text_write::source::Source;
 
 // The patterns of the store; where the memo of the variables' values stands in work, behind which the stack of a walk begins, and that
 // memo; where the row of the goal's class stands; and the budget of each value.
-#[derive(Drop)]
+#[derive(Clone, Copy)]
 pub struct Form {
     pub patterns: Source,
     pub values: usize,

@@ -13,7 +13,7 @@ use term_instance::tables::Instance;
 use text_write::source::Source;
 
 // The budget of a goal's general form, and that of each value.
-#[derive(Drop)]
+#[derive(Clone, Copy)]
 pub struct Budgets {
     pub form: u64,
     pub value: u64,
@@ -21,7 +21,7 @@ pub struct Budgets {
 
 // The goal is met and shown: the memos as they are then, and where the text ends. Or it has no result, or one with another judgment; or
 // the judgment of the result's step is no instance of its class's conclusion.
-#[derive(Drop)]
+#[derive(Clone, Copy)]
 pub enum Shown {
     On(Memo, Memo, usize),
     Unmet,

@@ -12,7 +12,7 @@ use term_instance::tables::Instance;
 
 // All goals are met and shown, and the text ends there; or goal i has no result, or one with another judgment; or the judgment of the
 // result's step s is no instance of its class's conclusion.
-#[derive(Drop)]
+#[derive(Clone, Copy)]
 pub enum Goals {
     Shown(usize),
     Unmet(usize),

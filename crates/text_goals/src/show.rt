@@ -18,7 +18,7 @@ use definition::{Buffer, Figures, Refusal};
 use pack_tables::catalog::Catalog;
 
 // How many class words, pattern words and bytes of text there are, and the figures; or why there are none.
-#[derive(Drop)]
+#[derive(Clone, Copy)]
 pub enum Answer {
     Done(usize, usize, usize, Figures),
     Refused(Refusal),

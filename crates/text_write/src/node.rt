@@ -8,7 +8,7 @@ use crate::source::{Source, argument_of, arity_of, head_of};
 use base::id::Pattern;
 
 // Where a node's text ends, with which it is shown; or where it ends behind the symbol of an open bracket.
-#[derive(Drop)]
+#[derive(Clone, Copy)]
 pub enum Shown {
     Whole(usize),
     Open(usize),

@@ -8,7 +8,7 @@ ghost use Rattle.text_write.specs.Written.{Adds};
 use buffer::decimal::{Put, put_decimal};
 
 // Where a text ends.
-#[derive(Drop)]
+#[derive(Clone, Copy)]
 pub struct Text(pub usize);
 
 impl Text {

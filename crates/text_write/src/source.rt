@@ -8,7 +8,7 @@ use pack_tables::catalog::Catalog;
 use store::nodes::Store;
 
 // Where nodes are read: the pack's tables, the store with its index's place in work, and which of both is meant.
-#[derive(Drop)]
+#[derive(Clone, Copy)]
 pub struct Source {
     pub catalog: Catalog,
     pub index: usize,

@@ -10,7 +10,7 @@ use crate::source::{Source, argument_of, arity_of};
 use base::stack::Frame;
 
 // How far a walk is: how many frames there are, what is left of the budget, and where the text ends.
-#[derive(Drop)]
+#[derive(Clone, Copy)]
 pub struct Point {
     pub frames: usize,
     pub left: u64,

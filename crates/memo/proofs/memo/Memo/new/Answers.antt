@@ -1,0 +1,9 @@
+-- `Memo::new` meets its contract.
+use borrow.Author.Rules.{rules}
+use mathlib.Core.Path.{refl}
+use lib.ListN.{length}
+use Rattle.memo.specs.Recall.{begun-new}
+use Rattle.memo.proofs.memo.Memo.new.Goals as goal
+
+pub returns : goal.returns
+returns c = begun-new _ (length c.args.table.now) _ c.zero_words.ensures refl

@@ -1,0 +1,8 @@
+-- `get` meets its contract.
+use borrow.Author.Rules.{rules}
+use Rattle.memo.specs.Lent.{recall_at}
+use Rattle.memo.proofs.part.get.Goals as goal
+
+pub returns : goal.returns
+unfolding recall_at
+returns c = c.get.ensures
