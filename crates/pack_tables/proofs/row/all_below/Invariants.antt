@@ -1,0 +1,17 @@
+-- `all_below` meets its contract: with each turn the words left give the same answer.
+use borrow.Author.Rules.{rules}
+use mathlib.Core.Path.{◌≡◌, sym, ◌∙◌}
+use Prim.Native.Nat.{◌+◌, ◌*◌, ◌-◌}
+use native.Mathlib.Omega.{arith}
+use lib.Dec.{ltb}
+use lib.ListN.{drop}
+use Rattle.definition.specs.Test.{all}
+use Rattle.definition.specs.Theory.{words}
+use Rattle.pack_tables.specs.Row.{below-start, below-turn, below_stop, below_end}
+use Rattle.pack_tables.proofs.row.all_below.Given as goal
+
+abbrev pub invariant-loop-i : goal.invariant-loop-i
+invariant-loop-i l = all (λ w. ltb w l.bound) (words (l.n - l.i) (drop (l.at + 4 * l.i) l.body)) ≡ all (λ w. ltb w l.bound) (words l.n (drop l.at l.body))
+
+abbrev pub decreases-loop-i : goal.decreases-loop-i
+decreases-loop-i l = l.n - l.i
