@@ -1,0 +1,16 @@
+-- `circular` meets its contract: with each node one more was seen.
+use borrow.Author.Rules.{rules}
+use mathlib.Core.Path.{◌≡◌, refl}
+use Prim.Native.Nat.{◌-◌, ◌≤◌}
+use native.Mathlib.Omega.{arith}
+use Rattle.graph.specs.Cells.{unchanged_same, unchanged_then}
+use Rattle.graph_unify.specs.Circles.{few_nodes, Tellings, telling_ready, telling_on, telling_circle, telling_done}
+use Rattle.graph_unify.specs.CircleWords.{path_in, colour_in, Beyond}
+use Rattle.graph_unify.specs.CircleTurns.{unseen_long, unseen-held, telling_unseen, tells-unseen}
+use Rattle.graph_unify.proofs.circle.circular.Given as goal
+
+abbrev pub invariant-loop-x : goal.invariant-loop-x
+invariant-loop-x l = (l.n ≡ l.g.nodes) × Beyond l.cells l.initial.table l.table × (Tellings l.cells l.initial.table l.initial.table (colour_in l.cells l.initial.table) (path_in l.cells l.initial.table) l.g 0 → Tellings l.cells l.initial.table l.table (colour_in l.cells l.table) (path_in l.cells l.table) l.g l.x)
+
+abbrev pub decreases-loop-x : goal.decreases-loop-x
+decreases-loop-x l = l.n - l.x

@@ -1,0 +1,15 @@
+-- `abstract_position` meets its contract.
+use mathlib.Core.Path.{◌∙◌}
+use native.Mathlib.Omega.{arith}
+use Rattle.pack_tables.specs.Catalog.{records_of}
+use Rattle.pack_read.specs.Says.{abstract_position_read}
+use Rattle.pack_read.proofs.abstracted.abstract_position.Goals as goal
+
+pub body_word-requires : goal.body_word-requires
+body_word-requires c =
+    (c.requires.0.cataloged, omega arith, c.requires.1, omega (arith, c.requires.0.reads.abstracts.form c.args.i c.requires.1))
+
+pub returns : goal.returns
+returns c =
+    let a = c.args in
+    λ P R. c.body_word.ensures ∙ abstract_position_read a.pack.now (records_of a.work.now a.c) P R a.i c.requires.1

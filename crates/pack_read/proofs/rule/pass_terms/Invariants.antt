@@ -1,0 +1,15 @@
+-- `pass_terms` meets its contract: ahead of each word as many terms are to come as `left` says.
+use mathlib.Core.Path.{◌≡◌}
+use Prim.Native.Nat.{◌-◌}
+use native.Mathlib.Omega.{arith}
+use Rattle.definition.specs.Pack.{Terms}
+use Rattle.definition.specs.Certificate.{count}
+use Rattle.pack_read.specs.Held.{OfHeld, readable}
+use Rattle.pack_read.specs.Clause.{Spelt, Passing, passing_first, passing_few, passing_done, passing_there, passing_symbol, passing_next}
+use Rattle.pack_read.proofs.rule.pass_terms.Given as goal
+
+abbrev pub invariant-loop-left : goal.invariant-loop-left
+invariant-loop-left l = OfHeld l.pack l.work l.c (λ P. (ts : Terms) → Spelt P l.r l.vars l.from ts → count ts ≡ l.n → Passing P l.from ts l.i l.left)
+
+abbrev pub decreases-loop-left : goal.decreases-loop-left
+decreases-loop-left l = 256 - l.i

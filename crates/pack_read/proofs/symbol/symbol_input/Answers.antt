@@ -1,0 +1,35 @@
+-- `symbol_input` meets its contract.
+use mathlib.Core.Path.{◌∙◌}
+use native.Mathlib.Omega.{arith}
+use Rattle.pack_tables.specs.Catalog.{records_of}
+use Rattle.pack_read.specs.Laws.{record_inside}
+use Rattle.pack_read.specs.Says.{input_below, input_read, input_room}
+use Rattle.pack_read.proofs.symbol.symbol_input.Goals as goal
+
+pub overflow_mul-i : goal.overflow_mul-i
+overflow_mul-i c =
+    let a = c.args in
+    let p = c.requires in
+    let l = input_below a.pack.now (records_of a.work.now a.c) p.0.pack p.0.reads a.h p.1 a.i p.2 in
+    omega (arith, input_room a.pack.now (records_of a.work.now a.c) p.0.pack p.0.reads a.h p.1 a.i l, record_inside a.pack.now a.work.now a.c 1 a.h p.0.cataloged (omega arith) p.1)
+
+pub overflow_add-i : goal.overflow_add-i
+overflow_add-i c =
+    let a = c.args in
+    let p = c.requires in
+    let l = input_below a.pack.now (records_of a.work.now a.c) p.0.pack p.0.reads a.h p.1 a.i p.2 in
+    omega (arith, input_room a.pack.now (records_of a.work.now a.c) p.0.pack p.0.reads a.h p.1 a.i l, record_inside a.pack.now a.work.now a.c 1 a.h p.0.cataloged (omega arith) p.1)
+
+pub body_word-requires : goal.body_word-requires
+body_word-requires c =
+    let a = c.args in
+    let p = c.requires in
+    let l = input_below a.pack.now (records_of a.work.now a.c) p.0.pack p.0.reads a.h p.1 a.i p.2 in
+    (p.0.cataloged, omega arith, p.1, input_room a.pack.now (records_of a.work.now a.c) p.0.pack p.0.reads a.h p.1 a.i l)
+
+pub returns : goal.returns
+returns c =
+    let a = c.args in
+    let p = c.requires in
+    let l = input_below a.pack.now (records_of a.work.now a.c) p.0.pack p.0.reads a.h p.1 a.i p.2 in
+    λ P R. c.body_word.ensures ∙ input_read a.pack.now (records_of a.work.now a.c) P R a.h p.1 a.i l
