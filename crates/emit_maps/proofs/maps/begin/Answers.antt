@@ -1,0 +1,9 @@
+-- `begin` meets its contract.
+use borrow.Author.Rules.{rules}
+use Rattle.emit_maps.specs.Asking.{begun}
+use Rattle.emit_maps.proofs.maps.begin.Goals as goal
+
+pub returns : goal.returns
+returns c =
+    let z = c.zero_words in
+    begun c.args.work.now c.args.m c.requires z.new.words z.ensures

@@ -1,0 +1,8 @@
+-- `deepen` meets its contract.
+use borrow.Author.Rules.{rules}
+use lib.ListN.{length-set}
+use native.Mathlib.Omega.{arith}
+use Rattle.term_copy.proofs.copy.deepen.Goals as goal
+
+pub bounds-work-at-3 : goal.bounds-work-at-3
+bounds-work-at-3 c = simp length-set (omega arith)

@@ -1,0 +1,13 @@
+-- `run` meets its contract.
+use borrow.Author.Rules.{rules}
+use Prim.Native.Nat.{◌-◌}
+use mathlib.Core.Path.{◌∙◌}
+use Rattle.term_copy.specs.Runs.{turns_most, Loops, loops_first, loops_at, loops_ready, loops_done, loops_on, loops_fewer, loops_short}
+use native.Mathlib.Omega.{arith}
+use Rattle.term_copy.proofs.copy.run.Given as goal
+
+abbrev pub invariant-loop-top : goal.invariant-loop-top
+invariant-loop-top l = Loops l.initial.work l.work l.words l.initial.cells l.cells l.flex l.l l.st l.memo l.initial.g l.g l.top
+
+abbrev pub decreases-loop-top : goal.decreases-loop-top
+decreases-loop-top l = turns_most l.work l.words l.l l.st l.memo l.top

@@ -1,0 +1,16 @@
+-- `gather` meets its contract.
+use borrow.Author.Rules.{rules}
+use Rattle.term_copy.specs.Writes.{gather_more, gather_all, argument_below}
+use Rattle.term_copy.specs.Places.{copy_in}
+use Prim.Native.Nat.{◌≤◌, ◌-◌}
+use lib.ListN.{length, take, drop, length-set}
+use mathlib.Core.List.{map}
+use native.Mathlib.Omega.{arith}
+use mathlib.Core.Path.{◌≡◌, refl, ◌∙◌}
+use Rattle.term_copy.proofs.node.gather.Given as goal
+
+abbrev pub invariant-loop-i : goal.invariant-loop-i
+invariant-loop-i l = (length l.args ≡ length l.initial.args) × (l.i ≤ length l.args) × (take l.i l.args ≡ take l.i (map (copy_in l.work l.l l.memo) (drop 1 l.key)))
+
+abbrev pub decreases-loop-i : goal.decreases-loop-i
+decreases-loop-i l = length l.args - l.i
