@@ -1,0 +1,11 @@
+-- `push_arguments` meets its contract: with each turn one argument more stands on the stack.
+use borrow.Author.Rules.{rules}
+use Rattle.pack_read.specs.Held.{readable}
+use Rattle.check_steps.specs.Pushed.{ArgumentsFrom, node_recorded, arguments_none, arguments_left, arguments_room, arguments_more, arguments_all}
+use Rattle.check_steps.proofs.pending.push_arguments.Given as goal
+
+abbrev pub invariant-loop-i : goal.invariant-loop-i
+invariant-loop-i l = ArgumentsFrom l.pack l.work l.c l.n.0 l.i l.initial.stack l.initial.on l.stack l.on
+
+abbrev pub decreases-loop-i : goal.decreases-loop-i
+decreases-loop-i l = l.i

@@ -1,0 +1,19 @@
+-- `failing_step` meets its contract: with each turn the steps left give the same answer.
+use borrow.Author.Rules.{rules}
+use mathlib.Core.Path.{◌≡◌, refl, ◌∙◌}
+use Prim.Native.Nat.{◌-◌, ◌≤◌}
+use native.Mathlib.Omega.{arith}
+use lib.ListN.{length}
+use Rattle.definition.specs.Pack.{no_step, step_of}
+use Rattle.definition.specs.Verdict.{passes}
+use Rattle.pack_read.specs.Reads.{length_steps}
+use Rattle.check_steps.specs.First.{LeftFrom, left-all, left_on, left_at, left_end}
+use mathlib.Core.Bool.{not}
+use Rattle.std.proofs.Common.{ap}
+use Rattle.check_steps.proofs.steps.failing_step.Given as goal
+
+abbrev pub invariant-loop-i : goal.invariant-loop-i
+invariant-loop-i l = (l.i ≤ l.steps) × LeftFrom l.pack l.work l.c (λ P. P.steps) passes no_step 4 (length_steps l.pack _) l.i × (length l.stack ≡ 256) × (length l.values ≡ 64)
+
+abbrev pub decreases-loop-i : goal.decreases-loop-i
+decreases-loop-i l = l.steps - l.i

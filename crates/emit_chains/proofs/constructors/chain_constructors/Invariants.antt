@@ -1,0 +1,22 @@
+-- `chain_constructors` meets its contract: with each turn one symbol more is chained.
+use borrow.Author.Rules.{rules}
+use Prim.Native.Nat.{ℕ, ◌-◌}
+use native.Mathlib.Omega.{arith}
+use lib.ListN.{length}
+use Rattle.definition.specs.Pack.{Pack, symbol_of}
+use Rattle.pack_read.specs.Held.{readable}
+use Rattle.pack_read.specs.Reads.{length_symbols}
+use Rattle.emit_chains.specs.Chaining.{ready_few, ready_cleared, Chaining, chaining_none, chaining_more, chaining_all, chaining_outside}
+use Rattle.emit_chains.proofs.constructors.chain_constructors.Given as goal
+
+abbrev many : Pack → ℕ
+many P = length P.symbols
+
+abbrev key : Pack → ℕ → ℕ
+key P h = (symbol_of P h).output
+
+abbrev pub invariant-loop-h : goal.invariant-loop-h
+invariant-loop-h l = Chaining l.pack l.c l.chains 1 many key l.initial.work l.h l.work
+
+abbrev pub decreases-loop-h : goal.decreases-loop-h
+decreases-loop-h l = l.h

@@ -1,0 +1,7 @@
+-- `clear` meets its contract.
+use borrow.Author.Rules.{rules}
+use Rattle.term_lift.specs.Nodes.{cleared}
+use Rattle.term_lift.proofs.lift.Lifted.clear.Goals as goal
+
+pub returns : goal.returns
+returns c = cleared _ c.args.self c.requires _ c.zero_words.ensures

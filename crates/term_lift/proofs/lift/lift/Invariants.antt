@@ -1,0 +1,14 @@
+-- `lift` meets its contract: with each turn what is left of the stack gives the same walk.
+use borrow.Author.Rules.{rules}
+use mathlib.Core.Path.{◌≡◌, refl, ◌∙◌}
+use native.Mathlib.Omega.{arith}
+use lib.ListN.{length, length-set}
+use Rattle.store.specs.declared.nodes.Interned.TheVariants.{Short}
+use Rattle.term_lift.specs.Runs.{Walks, turns_in, walks_at, turns_at, walks_none, walks_on, walks_less, walks_short, walks_lifted, first-room, first_apart, first_starts, first_walks, first_answers, first_done}
+use Rattle.term_lift.proofs.lift.lift.Given as goal
+
+abbrev pub invariant-loop-top : goal.invariant-loop-top
+invariant-loop-top l = (length l.work ≡ length l.initial.work) × (length l.words ≡ length l.initial.words) × Walks l.pack l.initial.work l.initial.words l.work l.words l.c l.l l.initial.grown l.grown l.n.0 l.top
+
+abbrev pub decreases-loop-top : goal.decreases-loop-top
+decreases-loop-top l = turns_in l.pack l.work l.words l.c l.l l.grown l.top
