@@ -76,7 +76,7 @@ module _ (S : Setting) (good : Good S.pack) (few : Few S.pack) (cut : ProvesCut 
   -- by the open places
   places-at : (g : Graph) (u : Use) (v : Vertex) (raised : List (Option ℕ)) (e : Emitter) → Sound S e → Shaped S.pack g → HasL S g → UseIn S.pack g u → Rooted S.pack g u v
       → RaisedEach S.pack S.eigen g e.kept.store v.args raised → (ks : List ℕ) → open_places raised 0 ≡ ks
-      → Comes S (Chooses g) (elim ks as (λ _. Emitter → Run (Tried Chosen)) [
+      → Comes S (Chooses g) (elim ks [
         | [] ↦ give (record { graph = g; pending = [] })
         | o ∷ [] ↦ elim (any (eqb o) (outputs_of v.head S.pack.cuts)) [ true ↦ choose_output S g u v.args raised v.head o | false ↦ give (record { graph = g; pending = u ∷ [] }) ]
         | o ∷ q ∷ more ↦ give (record { graph = g; pending = u ∷ [] })
