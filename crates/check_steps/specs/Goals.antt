@@ -3,7 +3,7 @@ use Rattle.std.specs.Prelude.{◌≡◌, true, false, List, ℕ, ◌<◌, length
 use Rattle.std.proofs.Common.{sym, arith}
 use Rattle.definition.specs.Test.{is, see}
 use Rattle.definition.specs.Verdict.{met}
-use Rattle.definition.specs.Laws.Agreement.{met_sound, met_complete}
+use Rattle.definition.proofs.Laws.Agreement.{met_sound, met_complete}
 use Rattle.pack_tables.specs.Catalog.{records_of}
 use Rattle.pack_tables.specs.declared.catalog.Catalog.{Catalog}
 use Rattle.pack_tables.specs.declared.region.Sought.TheVariants.{At, Nowhere}

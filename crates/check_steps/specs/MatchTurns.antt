@@ -12,10 +12,10 @@ use Rattle.definition.specs.Certificate.{count}
 use Rattle.definition.specs.Theory.{variable}
 use Rattle.definition.specs.Verdict.{Bound, value_of, bound, provided, onwards, matched, passes}
 use Rattle.definition.specs.Good.{Below}
-use Rattle.definition.specs.Laws.Grow.{below_more, below_both}
-use Rattle.definition.specs.Laws.Agreement.{judged, judged-below}
-use Rattle.definition.specs.Laws.Prefix.{terms_words}
-use Rattle.definition.specs.Laws.Suffix.{judgments_sorted}
+use Rattle.definition.proofs.Laws.Grow.{below_more, below_both}
+use Rattle.definition.proofs.Laws.Agreement.{judged, judged-below}
+use Rattle.definition.proofs.Laws.Prefix.{terms_words}
+use Rattle.definition.proofs.Laws.Suffix.{judgments_sorted}
 use Rattle.pack_read.specs.Clause.{words-most}
 use Rattle.base.specs.Part.{put}
 use Rattle.buffer.specs.Zero.{zeros_long, zeros_there}

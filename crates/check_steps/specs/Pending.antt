@@ -4,8 +4,8 @@ use Rattle.std.proofs.Common.{sym, ap, subst, ◌∙◌, append-nil, arith, leng
 use Rattle.definition.specs.Pack.{prop, Term, Terms, var, app, nil, cons, Pack, symbol_of}
 use Rattle.definition.specs.Theory.{variable}
 use Rattle.definition.specs.Good.{Sorted, SortedAll, Few}
-use Rattle.definition.specs.Laws.Prefix.{term_words, terms_words}
-use Rattle.definition.specs.Laws.Suffix.{joined, joined_words, joined_sorted, words_some}
+use Rattle.definition.proofs.Laws.Prefix.{term_words, terms_words}
+use Rattle.definition.proofs.Laws.Suffix.{joined, joined_words, joined_sorted, words_some}
 
 -- the words of k terms, each of its sort
 pub record Pending (P : Pack) (vars ws : List ℕ) (k : ℕ) : Type 0 where

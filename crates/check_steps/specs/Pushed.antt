@@ -4,8 +4,8 @@ use Rattle.std.proofs.Math.Path.{refl, ap}
 use Rattle.std.proofs.Common.{sym, ◌∙◌, arith, drop_of_length-le, drop-cons}
 use mathlib.Core.List.{List, [], ◌∷◌, ◌++◌}
 use Rattle.definition.specs.Pack.{Pack, node_of, step_of}
-use Rattle.definition.specs.Laws.Grow.{below_at}
-use Rattle.definition.specs.Laws.Agreement.{judged}
+use Rattle.definition.proofs.Laws.Grow.{below_at}
+use Rattle.definition.proofs.Laws.Agreement.{judged}
 use Rattle.base.specs.Stack.{stacked}
 use Rattle.base.specs.declared.stack.Stack.{Stack}
 use Rattle.pack_tables.specs.Catalog.{records_of}

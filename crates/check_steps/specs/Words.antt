@@ -9,11 +9,11 @@ use Rattle.definition.specs.Theory.{variable}
 use Rattle.definition.specs.Certificate.{count}
 use Rattle.definition.specs.Verdict.{Bound, value_of, bound, provided, onwards, matches, match_all, matched, passes}
 use Rattle.definition.specs.Good.{Below, Sorted, SortedAll, Good, Few}
-use Rattle.definition.specs.Laws.Prefix.{term_words, terms_words}
-use Rattle.definition.specs.Laws.Suffix.{judgments_sorted}
-use Rattle.definition.specs.Laws.Tree.{args-below, arguments_many}
-use Rattle.definition.specs.Laws.Grow.{below_more}
-use Rattle.definition.specs.Laws.Agreement.{judged, judged-below, onwards-same}
+use Rattle.definition.proofs.Laws.Prefix.{term_words, terms_words}
+use Rattle.definition.proofs.Laws.Suffix.{judgments_sorted}
+use Rattle.definition.proofs.Laws.Tree.{args-below, arguments_many}
+use Rattle.definition.proofs.Laws.Grow.{below_more}
+use Rattle.definition.proofs.Laws.Agreement.{judged, judged-below, onwards-same}
 use Rattle.pack_read.specs.Reads.{rule_words}
 
 -- each word takes its node off the stack; a symbol puts the node's arguments on it

@@ -6,9 +6,9 @@ use Rattle.definition.specs.Test.{is, see, never}
 use Rattle.definition.specs.Pack.{Term, Terms, var, app, nil, cons, Pack, node_of}
 use Rattle.definition.specs.Good.{Below, Good}
 use Rattle.definition.specs.Verdict.{Bound, value_of, bound, provided, onwards, matches, match_all}
-use Rattle.definition.specs.Laws.Tree.{args-below}
-use Rattle.definition.specs.Laws.Grow.{below_more}
-use Rattle.definition.specs.Laws.Matches.{Given}
+use Rattle.definition.proofs.Laws.Tree.{args-below}
+use Rattle.definition.proofs.Laws.Grow.{below_more}
+use Rattle.definition.proofs.Laws.Matches.{Given}
 
 abbrev pair : ℕ → ℕ → Bound
 pair k n = record { variable = k; value = n }

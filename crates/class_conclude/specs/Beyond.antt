@@ -12,7 +12,7 @@ use Rattle.definition.specs.Good.{Below}
 use Rattle.definition.specs.Verdict.{Bound, value_of, provided}
 use Rattle.definition.specs.Graph.{Graph, vertex, root, is_var}
 use Rattle.definition.specs.Analysis.{pairing, value_at, valued}
-use Rattle.definition.specs.Laws.Agreement.{onwards_some}
+use Rattle.definition.proofs.Laws.Agreement.{onwards_some}
 use Rattle.theory.specs.Unification.Forest.{Forest, root_inside}
 use Rattle.theory.specs.Unification.Inner.{Inner}
 

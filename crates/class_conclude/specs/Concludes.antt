@@ -9,9 +9,9 @@ use Rattle.std.proofs.Math.ListN.{length, get_or}
 use Rattle.definition.specs.Pack.{Term, Terms, nil, cons, Node, Pack, rule_of}
 use Rattle.definition.specs.Certificate.{count}
 use Rattle.definition.specs.Good.{Below}
-use Rattle.definition.specs.Laws.Grow.{below_more}
-use Rattle.definition.specs.Laws.Prefix.{term_words, terms_words}
-use Rattle.definition.specs.Laws.Suffix.{all_words}
+use Rattle.definition.proofs.Laws.Grow.{below_more}
+use Rattle.definition.proofs.Laws.Prefix.{term_words, terms_words}
+use Rattle.definition.proofs.Laws.Suffix.{all_words}
 use Rattle.definition.specs.Verdict.{Bound, value_of}
 use Rattle.definition.specs.Store.{pattern_words}
 use Rattle.definition.specs.Graph.{Graph, circular, up_to, Grown, cells as cells_of}

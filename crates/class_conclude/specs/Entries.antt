@@ -4,7 +4,7 @@ use Rattle.std.proofs.Common.{sym, ap, ◌∙◌, subst, arith, eq-eqb, ne_eqb}
 use Rattle.definition.specs.Test.{is, see}
 use Rattle.definition.specs.Pack.{Node, no_node, Pack}
 use Rattle.definition.specs.Good.{Below}
-use Rattle.definition.specs.Laws.Grow.{below_at}
+use Rattle.definition.proofs.Laws.Grow.{below_at}
 use Rattle.definition.specs.Verdict.{Bound}
 use Rattle.definition.specs.Store.{variable_head, is_variable, pattern_words}
 use Rattle.definition.specs.Graph.{Graph}

@@ -10,7 +10,7 @@ use Rattle.definition.specs.Test.{is, see, any}
 use Rattle.definition.specs.Pack.{Pack, Result, step_of}
 use Rattle.definition.specs.Verdict.{no_result}
 use Rattle.definition.specs.Keys.{first_of, predicate_of, is_a_cut, needs, needed}
-use Rattle.definition.specs.Laws.Grow.{below_at}
+use Rattle.definition.proofs.Laws.Grow.{below_at}
 use Rattle.theory.specs.Keys.Needed.{first-earlier}
 use Rattle.base.specs.Outside.{Outside}
 use Rattle.base.specs.Part.{put}

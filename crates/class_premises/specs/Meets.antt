@@ -10,8 +10,8 @@ use Rattle.definition.specs.Certificate.{count}
 use Rattle.definition.specs.Good.{Below}
 use Rattle.definition.specs.Graph.{Graph, applied, push, Unified, unify, cells as cells_of}
 use Rattle.definition.specs.Analysis.{instantiate, instantiate_all}
-use Rattle.definition.specs.Laws.Prefix.{term_words, terms_words}
-use Rattle.definition.specs.Laws.Suffix.{all_words}
+use Rattle.definition.proofs.Laws.Prefix.{term_words, terms_words}
+use Rattle.definition.proofs.Laws.Suffix.{all_words}
 use Rattle.definition.specs.declared.Refusal.TheVariants.{Clash as Clashes, Short as TooShort}
 use Rattle.base.specs.Part.{part}
 use Rattle.base.specs.Outside.{Outside, outside_then, outside_wider, part-ahead, part-behind}

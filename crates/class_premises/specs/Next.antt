@@ -9,7 +9,7 @@ use Rattle.std.proofs.lemmas.List.{length-map}
 use Rattle.definition.specs.Pack.{Term, Terms, nil, cons, Node, Pack, rule_of, step_of}
 use Rattle.definition.specs.Certificate.{count}
 use Rattle.definition.specs.Good.{Below, SortedAll}
-use Rattle.definition.specs.Laws.Grow.{below_more, below_at, below_both, map_at, get_d_behind}
+use Rattle.definition.proofs.Laws.Grow.{below_more, below_at, below_both, map_at, get_d_behind}
 use Rattle.definition.specs.Frame.{refuse}
 use Rattle.definition.specs.Answer.{Lent}
 use Rattle.definition.specs.Run.{outcome}
@@ -18,7 +18,7 @@ use Rattle.definition.specs.Graph.{Graph, up_to, Unified, cells as cells_of}
 use Rattle.definition.specs.Verdict.{Bound}
 use Rattle.definition.specs.Analysis.{copied, instantiate, copy}
 use Rattle.definition.specs.Classes.{Class, no_class, Built, Premises, in_order}
-use Rattle.definition.specs.Laws.Prefix.{term_words, terms_words}
+use Rattle.definition.proofs.Laws.Prefix.{term_words, terms_words}
 use Rattle.definition.specs.declared.Refusal.{Refusal}
 use Rattle.definition.specs.declared.Refusal.TheVariants.{Clash as Clashes, Short as TooShort}
 use Rattle.theory.specs.Copies.Variables.{up_to_below}

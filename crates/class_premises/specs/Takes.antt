@@ -4,11 +4,11 @@ use Rattle.std.proofs.Common.{sym, ap, ap₂, ◌∙◌, subst, inl, inr, arith}
 use Rattle.std.proofs.Math.Option.{none, some}
 use Rattle.definition.specs.Pack.{Term, Node, Pack}
 use Rattle.definition.specs.Good.{Below}
-use Rattle.definition.specs.Laws.Grow.{below_more}
+use Rattle.definition.proofs.Laws.Grow.{below_more}
 use Rattle.definition.specs.Graph.{Graph, up_to, Unified, unify, cells as cells_of}
 use Rattle.definition.specs.Analysis.{Copy, copied, copy, instantiate}
 use Rattle.definition.specs.Classes.{in_order}
-use Rattle.definition.specs.Laws.Prefix.{term_words}
+use Rattle.definition.proofs.Laws.Prefix.{term_words}
 use Rattle.definition.specs.declared.Refusal.TheVariants.{Clash as Clashes, Short as TooShort}
 use Rattle.base.specs.Part.{part, length_part, part-lent}
 use Rattle.base.specs.Outside.{Outside, outside_then, outside_wider, part-ahead, part-behind}

@@ -6,7 +6,7 @@ use Rattle.std.proofs.lemmas.List.{length-map}
 use Rattle.definition.specs.Test.{is, see}
 use Rattle.definition.specs.Pack.{prop, Node, Pack, rule_of}
 use Rattle.definition.specs.Good.{Below}
-use Rattle.definition.specs.Laws.Prefix.{term_words, terms_words}
+use Rattle.definition.proofs.Laws.Prefix.{term_words, terms_words}
 use Rattle.definition.specs.Keys.{no_keyed, keyed as keys_of}
 use Rattle.definition.specs.Verdict.{Bound}
 use Rattle.definition.specs.Store.{pattern_words, nothing}
@@ -19,7 +19,7 @@ use Rattle.definition.specs.Answer.{Lent}
 use Rattle.definition.specs.Run.{Run, length_of, outcome}
 use Rattle.definition.specs.declared.Refusal.{Refusal}
 use Rattle.definition.specs.declared.Refusal.TheVariants.{Short}
-use Rattle.definition.specs.Laws.Grow.{get_d_behind}
+use Rattle.definition.proofs.Laws.Grow.{get_d_behind}
 use Rattle.theory.specs.Unification.Circle.{length_up_to}
 use Rattle.base.specs.Part.{part, length_part, part_same}
 use Rattle.base.specs.Outside.{Outside}

@@ -5,7 +5,7 @@ use Rattle.std.proofs.Math.Decide.{dec_lt}
 use Rattle.std.proofs.lemmas.List.{length-map}
 use Rattle.definition.specs.Test.{is, see}
 use Rattle.definition.specs.Good.{Below}
-use Rattle.definition.specs.Laws.Grow.{below_at}
+use Rattle.definition.proofs.Laws.Grow.{below_at}
 use Rattle.definition.specs.Graph.{Graph, vertex}
 use Rattle.definition.specs.Classes.{Class, count_of, mark}
 use Rattle.base.specs.Part.{part, part_at, length_part}

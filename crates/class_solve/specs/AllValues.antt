@@ -10,7 +10,7 @@ use Rattle.std.proofs.Math.ListN.{length}
 use Rattle.std.proofs.Math.Seq.{length-take-le}
 use Rattle.definition.specs.Pack.{Pack, step_of}
 use Rattle.definition.specs.Good.{Below}
-use Rattle.definition.specs.Laws.Grow.{below_at}
+use Rattle.definition.proofs.Laws.Grow.{below_at}
 use Rattle.definition.specs.Verdict.{Bound}
 use Rattle.definition.specs.Graph.{Graph, circular}
 use Rattle.definition.specs.Analysis.{valued}

@@ -3,7 +3,7 @@ use Rattle.std.specs.Prelude.{◌≡◌, List, [], ◌∷◌, ℕ, suc, ◌<◌,
 use Rattle.std.proofs.Common.{sym, ap, ◌∙◌, subst, arith}
 use Rattle.std.proofs.Math.Option.{none, some}
 use Rattle.definition.specs.Pack.{Pack, step_of}
-use Rattle.definition.specs.Laws.Grow.{below_at}
+use Rattle.definition.proofs.Laws.Grow.{below_at}
 use Rattle.definition.specs.Verdict.{Bound}
 use Rattle.definition.specs.Analysis.{valued}
 use Rattle.pack_tables.specs.Catalog.{records_of}

@@ -9,7 +9,7 @@ use Rattle.std.proofs.Math.Seq.{take-length}
 use Rattle.definition.specs.Pack.{nil, Pack, rule_of, step_of}
 use Rattle.definition.specs.Certificate.{count}
 use Rattle.definition.specs.Good.{Below, Good}
-use Rattle.definition.specs.Laws.Grow.{below_at}
+use Rattle.definition.proofs.Laws.Grow.{below_at}
 use Rattle.definition.specs.Verdict.{Bound}
 use Rattle.definition.specs.Keys.{first_of}
 use Rattle.definition.specs.Graph.{circular}

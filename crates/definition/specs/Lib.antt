@@ -1,4 +1,4 @@
--- Document 01, in its order; docs/DEFINITION.md walks a reader through it. Laws and rows are proved of it and need no belief.
+-- Document 01, in its order; docs/DEFINITION.md walks a reader through it. The laws and the small packs, in proofs/, are proved of it and need no belief.
 pub mod Test
 pub mod Little
 pub mod Decimal
@@ -25,5 +25,4 @@ pub mod Goals
 pub mod Shown
 pub mod Open
 pub mod Calls
-pub mod Laws
 pub mod Rows

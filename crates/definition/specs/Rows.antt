@@ -1,16 +1,5 @@
--- The small packs, a file for each part.
+-- How the small packs are said, and what a row of their table claims; the rows that hold are in proofs/.
 pub mod Say
 pub mod Packs
 pub mod Row
 pub mod Front
-pub mod Length
-pub mod Name
-pub mod Theory
-pub mod Limit
-pub mod Certificate
-pub mod Verdict
-pub mod Classes
-pub mod Order
-pub mod Unify
-pub mod Open
-pub mod Table

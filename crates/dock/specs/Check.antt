@@ -9,7 +9,7 @@ use Rattle.definition.specs.Parse.{parse}
 use Rattle.definition.specs.Answer.{answer_of, answer, lengths, padded-none}
 use Rattle.definition.specs.Verdict.{Accepted}
 use Rattle.definition.specs.Check.{check_lent, check_refusal, CheckLeft, cert_check}
-use Rattle.definition.specs.Laws.Check.{check_yes, yes_check}
+use Rattle.definition.proofs.Laws.Check.{check_yes, yes_check}
 use Rattle.definition.specs.declared.Answer.{Answer}
 use Rattle.definition.specs.declared.Refusal.{Refusal}
 use Rattle.definition.specs.declared.Refusal.TheVariants.{Form, Limit, Step, Goal, Clash, Circle, Instance, Short, Sorts, Cut, Ground}

@@ -8,7 +8,7 @@ use Rattle.definition.specs.declared.Answer.{Answer}
 use Rattle.definition.specs.declared.Figures.{Figures}
 use Rattle.definition.specs.declared.Refusal.{Refusal}
 use Rattle.theory.specs.Principal.{DemandThree}
-use Rattle.theory.specs.DemandThree.{demand_three}
+use Rattle.theory.proofs.DemandThree.{demand_three}
 use Rattle.buffer.specs.Zero.{zeroed, zeroed-all}
 use Rattle.pack_reader.specs.Sound.{bytes-all}
 use Rattle.class_build.specs.declared.build.Answer.TheVariants as built

@@ -9,7 +9,7 @@ use Rattle.definition.specs.declared.Figures.{Figures}
 use Rattle.definition.specs.declared.Refusal.{Refusal}
 use Rattle.buffer.specs.Zero.{zeroed}
 use Rattle.theory.specs.Principal.{DemandThreeShown}
-use Rattle.theory.specs.DemandThree.{demand_three_shown}
+use Rattle.theory.proofs.DemandThree.{demand_three_shown}
 use Rattle.pack_reader.specs.Sound.{bytes-all}
 use Rattle.text_goals.specs.declared.goal.Budgets.{Budgets}
 use Rattle.text_goals.specs.declared.show.Answer.TheVariants as shown

@@ -1,5 +1,5 @@
--- Document 01, "Proof lines and goal lines", behind the crate `definition`; docs/DEFINITION.md walks a reader through it. Laws and rows
--- are proved of it and need no belief.
+-- Document 01, "Proof lines and goal lines", behind the crate `definition`; docs/DEFINITION.md walks a reader through it. The laws
+-- and the small packs, in proofs/, are proved of it and need no belief.
 pub mod Text
 pub mod Line
 pub mod Written
@@ -17,5 +17,4 @@ pub mod Derive
 pub mod Begin
 pub mod Emit
 pub mod Calls
-pub mod Laws
 pub mod Rows

@@ -1,5 +1,3 @@
--- Packs through emit and certgen, by evaluation.
+-- How the small packs are said, and what a row of their table claims; the rows that hold are in proofs/.
 pub mod Row
 pub mod Packs
-pub mod Emit
-pub mod Table

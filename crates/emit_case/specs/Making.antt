@@ -15,7 +15,7 @@ use Rattle.definition.specs.Run.{outcome}
 use Rattle.definition.specs.declared.Refusal.{Refusal}
 use Rattle.store.specs.Words.{node_with}
 use Rattle.emission.specs.Line.{Line, var_line, Tally, counting, tally}
-use Rattle.emission.specs.Laws.Text.{tally-one-more}
+use Rattle.emission.proofs.Laws.Text.{tally-one-more}
 use Rattle.emission.specs.State.{Emitter, Setting, Undone, Tried, change, interned, write, having_name}
 use Rattle.emission.specs.Induct.{case_number}
 use Rattle.emit_theory.specs.Graph.Intern.{variable_sorted}

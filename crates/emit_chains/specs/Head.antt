@@ -4,9 +4,9 @@ use Rattle.std.proofs.Common.{ap, ◌∙◌, arith, length-append}
 use Rattle.std.proofs.lemmas.List.{get_or_at}
 use Rattle.definition.specs.Pack.{prop, Term, var, app, Pack, rule_of}
 use Rattle.definition.specs.Good.{Below, Sorted}
-use Rattle.definition.specs.Laws.Prefix.{term_words, terms_words}
-use Rattle.definition.specs.Laws.Grow.{below_at}
-use Rattle.definition.specs.Laws.Suffix.{term_some}
+use Rattle.definition.proofs.Laws.Prefix.{term_words, terms_words}
+use Rattle.definition.proofs.Laws.Grow.{below_at}
+use Rattle.definition.proofs.Laws.Suffix.{term_some}
 use Rattle.pack_read.specs.Reads.{rule_words}
 use Rattle.pack_read.specs.Held.{Proper}
 

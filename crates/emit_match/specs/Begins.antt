@@ -5,8 +5,8 @@ use Rattle.std.proofs.Math.Option.{none, some}
 use Rattle.definition.specs.Pack.{prop, nil, cons, Node, Pack, rule_of}
 use Rattle.definition.specs.Verdict.{Bound, matches}
 use Rattle.definition.specs.Good.{Below}
-use Rattle.definition.specs.Laws.Prefix.{term_words, terms_words}
-use Rattle.definition.specs.Laws.Suffix.{all_words}
+use Rattle.definition.proofs.Laws.Prefix.{term_words, terms_words}
+use Rattle.definition.proofs.Laws.Suffix.{all_words}
 use Rattle.emission.specs.Patterns.{over}
 use Rattle.base.specs.Outside.{Outside, outside_set}
 use Rattle.base.specs.Stack.{stacked}

@@ -9,7 +9,7 @@ use Rattle.definition.specs.Pack.{Node, no_node, Pack, symbol_of, rule_of, node_
 use Rattle.definition.specs.Theory.{variable}
 use Rattle.definition.specs.Verdict.{Bound, value_of, bound, provided, onwards}
 use Rattle.definition.specs.Good.{Below}
-use Rattle.definition.specs.Laws.Grow.{below_both}
+use Rattle.definition.proofs.Laws.Grow.{below_both}
 use Rattle.emission.specs.Patterns.{over}
 use Rattle.base.specs.Outside.{Outside}
 use Rattle.base.specs.Stack.{stacked, length-stacked, stacked-same, Took}

@@ -9,9 +9,9 @@ use Rattle.definition.specs.Theory.{variable}
 use Rattle.definition.specs.Verdict.{Bound, onwards, matches, match_all}
 use Rattle.definition.specs.Good.{Below, Sorted as SortedTerm, SortedAll as SortedTerms, Few}
 use Rattle.definition.specs.Store.{is_variable}
-use Rattle.definition.specs.Laws.Prefix.{term_words, terms_words}
-use Rattle.definition.specs.Laws.Grow.{below_more}
-use Rattle.definition.specs.Laws.Agreement.{onwards-same}
+use Rattle.definition.proofs.Laws.Prefix.{term_words, terms_words}
+use Rattle.definition.proofs.Laws.Grow.{below_more}
+use Rattle.definition.proofs.Laws.Agreement.{onwards-same}
 use Rattle.emission.specs.Patterns.{over}
 use Rattle.emit_theory.specs.Stores.{Sorted, SortedStore, sorted_below}
 use Rattle.emit_theory.specs.Graph.Intern.{symbol-node}

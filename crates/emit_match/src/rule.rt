@@ -1,7 +1,7 @@
 // A rule's conclusion against a pattern.
 ghost use Rattle.std.specs.Prelude.{◌≡◌, ◌<◌, length};
 ghost use Rattle.definition.specs.Pack.{rule_of};
-ghost use Rattle.definition.specs.Laws.Prefix.{terms_words};
+ghost use Rattle.definition.proofs.Laws.Prefix.{terms_words};
 ghost use Rattle.pack_read.specs.Held.{Held, OfHeld};
 ghost use Rattle.store.specs.Stored.{nodes};
 ghost use Rattle.emit_theory.specs.Stores.{SortedStore};

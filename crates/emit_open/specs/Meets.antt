@@ -11,7 +11,7 @@ use Rattle.definition.specs.Test.{is, see, never}
 use Rattle.definition.specs.Pack.{Node, no_node}
 use Rattle.definition.specs.Store.{is_variable, below}
 use Rattle.definition.specs.Classes.{is_some}
-use Rattle.definition.specs.Laws.Grow.{below_at}
+use Rattle.definition.proofs.Laws.Grow.{below_at}
 use Rattle.base.specs.Outside.{Outside, outside_none, outside_then, outside_wider, outside_set}
 use Rattle.base.specs.declared.stack.Stack.{Stack}
 use Rattle.theory.specs.Copies.Terms.{below-applied}

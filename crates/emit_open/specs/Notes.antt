@@ -11,7 +11,7 @@ use Rattle.std.proofs.Math.Seq.{get_or-set_same, get_or-set_other}
 use Rattle.definition.specs.Test.{or_right, or-none}
 use Rattle.definition.specs.Pack.{Node, no_node}
 use Rattle.definition.specs.Store.{variable_head, is_variable, below}
-use Rattle.definition.specs.Laws.Grow.{below_at}
+use Rattle.definition.proofs.Laws.Grow.{below_at}
 use Rattle.base.specs.Outside.{Outside, outside_none, outside_set}
 use Rattle.base.specs.Part.{part, part-set}
 use Rattle.theory.specs.Copies.Terms.{below-applied}

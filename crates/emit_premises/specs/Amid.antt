@@ -7,8 +7,8 @@ use Rattle.definition.specs.Pack.{Terms, var, app, nil, cons, Pack, symbol_of, r
 use Rattle.definition.specs.Theory.{variable}
 use Rattle.definition.specs.Certificate.{count}
 use Rattle.definition.specs.Good.{SortedAll}
-use Rattle.definition.specs.Laws.Prefix.{term_words, terms_words}
-use Rattle.definition.specs.Laws.Suffix.{term_some, sorts-many, none_left}
+use Rattle.definition.proofs.Laws.Prefix.{term_words, terms_words}
+use Rattle.definition.proofs.Laws.Suffix.{term_some, sorts-many, none_left}
 use Rattle.pack_read.specs.Reads.{rule_words}
 use Rattle.pack_read.specs.Held.{Proper}
 use Rattle.pack_read.specs.Clause.{words-most}

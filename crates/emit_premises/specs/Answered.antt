@@ -5,7 +5,7 @@ use Rattle.std.proofs.Math.Option.{Option, none, some}
 use Rattle.definition.specs.Pack.{prop, most_premises, Node, Pack, rule_of}
 use Rattle.definition.specs.Certificate.{count}
 use Rattle.definition.specs.Good.{Below}
-use Rattle.definition.specs.Laws.Grow.{below_at}
+use Rattle.definition.proofs.Laws.Grow.{below_at}
 use Rattle.definition.specs.Verdict.{matches}
 use Rattle.definition.specs.Store.{pattern_words}
 use Rattle.definition.specs.Frame.{Read, fine, refuse}

@@ -10,7 +10,7 @@ use Rattle.definition.specs.Test.{never}
 use Rattle.definition.specs.Pack.{prop, Terms, nil, cons, Node, Pack, rule_of}
 use Rattle.definition.specs.Certificate.{count}
 use Rattle.definition.specs.Verdict.{Bound}
-use Rattle.definition.specs.Laws.Suffix.{judgments_sorted}
+use Rattle.definition.proofs.Laws.Suffix.{judgments_sorted}
 use Rattle.emission.specs.Patterns.{BuiltAll, build, build_all}
 use Rattle.base.specs.Part.{part, put, length_part}
 use Rattle.pack_read.specs.Held.{Proper}

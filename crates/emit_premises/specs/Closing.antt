@@ -5,7 +5,7 @@ use mathlib.Core.List.{List, [], ◌∷◌, append_assoc}
 use Rattle.definition.specs.Pack.{Terms, nil, Node, Pack, rule_of}
 use Rattle.definition.specs.Verdict.{Bound}
 use Rattle.definition.specs.Store.{Stored as Placing, intern, pattern_words}
-use Rattle.definition.specs.Laws.Prefix.{term_words, terms_words}
+use Rattle.definition.proofs.Laws.Prefix.{term_words, terms_words}
 use Rattle.emission.specs.Patterns.{BuiltAll}
 use Rattle.theory.specs.Patterns.Interned.{Grows, with}
 use Rattle.base.specs.Part.{part, put}

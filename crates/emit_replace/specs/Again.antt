@@ -12,7 +12,7 @@ use Rattle.definition.specs.Pack.{Node, no_node}
 use Rattle.definition.specs.Good.{Below}
 use Rattle.definition.specs.Store.{below, Stored, intern}
 use Rattle.definition.specs.Analysis.{StoredAll}
-use Rattle.definition.specs.Laws.Grow.{below_more}
+use Rattle.definition.proofs.Laws.Grow.{below_more}
 use Rattle.emission.specs.Patterns.{replace_in, replace}
 use Rattle.theory.specs.Patterns.Interned.{Grows, grows_none, grows_then, grows_long, grows_at, interned}
 use Rattle.theory.specs.Walks.Again.{stored, stored_all, headed}

@@ -3,7 +3,7 @@ use Rattle.std.specs.Prelude.{◌≡◌, List, ◌∷◌, map, ℕ, zero, suc, �
 use Rattle.std.proofs.Common.{sym, ap, ◌∙◌, arith, length-set, get_or-set_same, get_or-set_other, get_or-take, length-take-le, ext_get_or}
 use Rattle.std.proofs.Math.Decide.{ℕ_discrete}
 use Rattle.std.proofs.lemmas.List.{length-map}
-use Rattle.definition.specs.Laws.Grow.{map_at}
+use Rattle.definition.proofs.Laws.Grow.{map_at}
 use Rattle.emit_replace.specs.Known.{Values, value_of}
 
 -- the head and the first i values stand there

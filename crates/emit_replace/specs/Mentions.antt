@@ -11,7 +11,7 @@ use borrow.Author.Tests.{eq-eqb, ne_eqb}
 use Rattle.definition.specs.Test.{is, see, never}
 use Rattle.definition.specs.Pack.{Node}
 use Rattle.definition.specs.Good.{Below}
-use Rattle.definition.specs.Laws.Grow.{below_more}
+use Rattle.definition.proofs.Laws.Grow.{below_more}
 use Rattle.emission.specs.Patterns.{mentions}
 use Rattle.emit_replace.specs.Again.{under, Rests}
 use Rattle.emit_replace.specs.Known.{Values, Known, valued, value_of, AllKnown}

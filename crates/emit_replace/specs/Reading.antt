@@ -6,7 +6,7 @@ use Rattle.definition.specs.Pack.{Node}
 use Rattle.definition.specs.Good.{Below}
 use Rattle.definition.specs.Store.{variable_head, is_variable, below}
 use Rattle.definition.specs.Test.{is, see}
-use Rattle.definition.specs.Laws.Grow.{below_at}
+use Rattle.definition.proofs.Laws.Grow.{below_at}
 use Rattle.theory.specs.Copies.Terms.{below-variable, below-applied}
 use Rattle.base.specs.Outside.{Outside, outside_then, outside_wider, outside_set}
 use Rattle.memo.specs.Recall.{recall, Remembers, length-recall}

@@ -3,7 +3,7 @@ use Rattle.std.specs.Prelude.{◌≡◌, refl, List, ◌∷◌, ℕ, suc, ◌+�
 use Rattle.std.proofs.Common.{sym, ap, subst, ◌∙◌, arith}
 use Rattle.std.proofs.Math.Option.{none, some}
 use Rattle.definition.specs.Test.{never}
-use Rattle.definition.specs.Laws.Grow.{below_more, below_at}
+use Rattle.definition.proofs.Laws.Grow.{below_more, below_at}
 use Rattle.base.specs.Outside.{Outside, outside_none, outside_then, outside_set}
 use Rattle.base.specs.Stack.{stacked, length-stacked}
 use Rattle.base.specs.declared.stack.Stack.{Stack}

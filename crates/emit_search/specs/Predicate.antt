@@ -4,7 +4,7 @@ use Rattle.std.proofs.Common.{sym, ap, ◌∙◌, arith}
 use Rattle.definition.specs.Test.{is, see}
 use Rattle.definition.specs.Pack.{prop, Term, var, app, Rule, Pack, no_node, no_rule as missing, rule_of}
 use Rattle.definition.specs.Good.{Below, Sorted}
-use Rattle.definition.specs.Laws.Grow.{below_at}
+use Rattle.definition.proofs.Laws.Grow.{below_at}
 use Rattle.definition.specs.Run.{outcome}
 use Rattle.pack_read.specs.Held.{Proper}
 use Rattle.emission.specs.State.{Emitter}

@@ -6,7 +6,7 @@ use Rattle.std.proofs.Math.ListN.{length, length-append}
 use Rattle.definition.specs.Pack.{Pack}
 use Rattle.emission.specs.Line.{Line, var_line, def_line, hyp_line, step_line_of, induct_line, result_line, Tally, no_line, counting, tally_from, tally}
 use Rattle.emission.specs.Render.{line_text, text_from, proof_text}
-use Rattle.emission.specs.Laws.Text.{line-has-bytes}
+use Rattle.emission.proofs.Laws.Text.{line-has-bytes}
 
 -- a line is counted once at the most
 module _ (t : Tally) where

@@ -11,7 +11,7 @@ use Rattle.definition.specs.Run.{return, length_of, has_room_for, outcome}
 use Rattle.definition.specs.declared.Refusal.TheVariants.{Short}
 use Rattle.emission.specs.Line.{Line, Tally, counting, tally}
 use Rattle.emission.specs.Render.{line_text, proof_text}
-use Rattle.emission.specs.Laws.Text.{tally-one-more, text_one-more}
+use Rattle.emission.proofs.Laws.Text.{tally-one-more, text_one-more}
 use Rattle.emission.specs.State.{Emitter, Setting, write, having_lines, having_def, having_name}
 use Rattle.theory.specs.Patterns.Interned.{grows_none}
 use Rattle.text_write.specs.Written.{Written, Adds, ends-whole, ends_short}

@@ -5,7 +5,7 @@ use Rattle.std.proofs.Math.Option.{Option, none, some}
 use Rattle.definition.specs.Test.{is, see, never}
 use Rattle.definition.specs.Frame.{fine}
 use Rattle.definition.specs.Answer.{Lent}
-use Rattle.definition.specs.Laws.Frame.{fine_eq}
+use Rattle.definition.proofs.Laws.Frame.{fine_eq}
 use Rattle.definition.specs.Run.{Note, first_short, outcome}
 use Rattle.emission.specs.State.{Emitter, Setting, Tried, Search}
 use Rattle.emit_theory.specs.Came.{came}

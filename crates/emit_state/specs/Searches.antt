@@ -8,7 +8,7 @@ use Rattle.definition.specs.Answer.{Lent}
 use Rattle.definition.specs.Run.{Run, done, stop, behind, ◌>>=◌ as ◌>>=r◌, first_short, outcome}
 use Rattle.definition.specs.declared.Refusal.{Refusal}
 use Rattle.emission.specs.State.{Emitter, Tried, Search, go_on, ◌>>=◌, now, give}
-use Rattle.emission.specs.Laws.Goals.{run_assoc}
+use Rattle.emission.proofs.Laws.Goals.{run_assoc}
 use Rattle.emit_theory.specs.Outcomes.{on_from, ran_then}
 use Rattle.emit_state.specs.Holding.{got, lost}
 use Rattle.emit_state.specs.Turns.{then_got, then_lost, then_refused}

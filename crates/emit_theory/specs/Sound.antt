@@ -7,7 +7,7 @@ use Rattle.definition.specs.Pack.{prop, var, app, Node, no_node}
 use Rattle.definition.specs.Verdict.{Bound, value_of}
 use Rattle.definition.specs.Store.{variable_node, term_of}
 use Rattle.emission.specs.Line.{Line, var_line, def_line, hyp_line, step_line_of, induct_line, result_line, Tally, no_line, counting, tally_from, tally}
-use Rattle.emission.specs.Laws.Text.{tally-behind}
+use Rattle.emission.proofs.Laws.Text.{tally-behind}
 use Rattle.emission.specs.State.{Emitter, Setting}
 use Rattle.emission.specs.Induct.{case_number}
 use Rattle.emission.specs.Begin.{eigen_number}

@@ -7,7 +7,7 @@ use Rattle.definition.specs.Frame.{refuse}
 use Rattle.definition.specs.declared.Refusal.TheVariants.{Short as Refusal-as-Short}
 use Rattle.base.specs.Outside.{Outside}
 use Rattle.emission.specs.Line.{Word, Line, def_line, Tally, counting, tally}
-use Rattle.emission.specs.Laws.Text.{text_grows}
+use Rattle.emission.proofs.Laws.Text.{text_grows}
 use Rattle.emission.specs.State.{Emitter, having_def}
 use Rattle.emission.specs.Words.{pattern_of, word_of}
 use Rattle.store.specs.Stored.{nodes}

@@ -9,7 +9,7 @@ use native.Mathlib.Omega.{arith}
 use Rattle.definition.specs.Test.{is, see}
 use Rattle.definition.specs.Pack.{Node}
 use Rattle.definition.specs.Good.{Below}
-use Rattle.definition.specs.Laws.Grow.{below_more}
+use Rattle.definition.proofs.Laws.Grow.{below_more}
 use Rattle.definition.specs.Run.{Run}
 use Rattle.emission.specs.Line.{Word}
 use Rattle.emission.specs.State.{Emitter, Setting, Kept, Tried, Search, ◌>>=◌, give}

@@ -11,7 +11,7 @@ use Rattle.std.proofs.Math.ListN.{length, get_or}
 use Rattle.definition.specs.Pack.{Node}
 use Rattle.definition.specs.Good.{Below}
 use Rattle.definition.specs.Store.{is_variable}
-use Rattle.definition.specs.Laws.Grow.{below_more, below_at}
+use Rattle.definition.proofs.Laws.Grow.{below_more, below_at}
 use Rattle.emission.specs.Line.{Word, Judgment}
 use Rattle.emission.specs.State.{Emitter, Setting, Search, ◌>>=◌, give}
 use Rattle.emission.specs.Words.{pattern_of, word_of, define, words, judgment}

@@ -10,7 +10,7 @@ use Rattle.definition.specs.Pack.{Node}
 use Rattle.definition.specs.Good.{Below}
 use Rattle.definition.specs.Verdict.{value_of}
 use Rattle.definition.specs.Store.{is_variable}
-use Rattle.definition.specs.Laws.Grow.{below_more}
+use Rattle.definition.proofs.Laws.Grow.{below_more}
 use Rattle.definition.specs.Run.{Note, behind, ◌>>=◌ as ◌>>=r◌}
 use Rattle.emission.specs.Line.{Word, defined, variable, constant, def_line, tally}
 use Rattle.emission.specs.Render.{proof_text}

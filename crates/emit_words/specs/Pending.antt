@@ -12,7 +12,7 @@ use Rattle.definition.specs.Pack.{Node, prop}
 use Rattle.definition.specs.Good.{Below}
 use Rattle.definition.specs.Verdict.{Bound}
 use Rattle.definition.specs.Store.{is_variable}
-use Rattle.definition.specs.Laws.Grow.{below_at}
+use Rattle.definition.proofs.Laws.Grow.{below_at}
 use Rattle.definition.specs.Frame.{Read, refuse}
 use Rattle.definition.specs.Answer.{Lent}
 use Rattle.definition.specs.Run.{Note, Run, behind, ◌>>=◌ as ◌>>=r◌, length_of, has_room_for, outcome}

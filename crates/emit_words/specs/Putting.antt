@@ -5,7 +5,7 @@ use Rattle.std.proofs.Math.Option.{some}
 use Rattle.definition.specs.Pack.{no_node}
 use Rattle.definition.specs.Good.{Below}
 use Rattle.definition.specs.Store.{is_variable}
-use Rattle.definition.specs.Laws.Grow.{below_at}
+use Rattle.definition.proofs.Laws.Grow.{below_at}
 use Rattle.emission.specs.Line.{Word, Line, Tally}
 use Rattle.emission.specs.State.{Emitter}
 use Rattle.emission.specs.Words.{pattern_of, word_of}

@@ -5,7 +5,7 @@ use Rattle.std.proofs.Math.Path.{ap, subst}
 use mathlib.Core.List.{List, [], ◌∷◌}
 use Rattle.std.proofs.Math.Option.{none}
 use Rattle.definition.specs.Pack.{no_node}
-use Rattle.definition.specs.Laws.Grow.{below_at}
+use Rattle.definition.proofs.Laws.Grow.{below_at}
 use Rattle.definition.specs.Run.{outcome}
 use Rattle.base.specs.Stack.{stacked, stacked-same, stacked_pop}
 use Rattle.base.specs.Outside.{Outside, outside_set}

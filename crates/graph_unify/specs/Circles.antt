@@ -4,7 +4,7 @@ use Rattle.std.proofs.Common.{sym, ap, subst, ◌∙◌, arith, add-one, length-
 use Rattle.std.proofs.Math.Option.{none}
 use Rattle.std.proofs.Math.Decide.{ℕ_discrete}
 use Rattle.definition.specs.Test.{Is, is, see}
-use Rattle.definition.specs.Laws.Grow.{below_at}
+use Rattle.definition.proofs.Laws.Grow.{below_at}
 use Rattle.definition.specs.Graph.{Graph, vertex, root, is_var, circular}
 use Rattle.definition.specs.Store.{nothing}
 use Rattle.graph.specs.declared.graph.Graph.{Graph as Counts}

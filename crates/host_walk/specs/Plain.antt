@@ -17,7 +17,7 @@ use Rattle.definition.specs.Verdict.{value_of}
 use Rattle.definition.specs.Store.{is_variable}
 use Rattle.definition.specs.Graph.{Vertex, Graph, variable_vertex, applied, vertex, push, root, is_var, ends, circular, cells as cells_of}
 use Rattle.definition.specs.Analysis.{parts, copied, pairing, Copy, copy_node, copy_all, copy}
-use Rattle.definition.specs.Laws.Grow.{below_more}
+use Rattle.definition.proofs.Laws.Grow.{below_more}
 use Rattle.theory.specs.Unification.Forest.{root_self}
 use Rattle.theory.specs.Unification.Circle.{all_up_to}
 use Rattle.theory.specs.Copies.Terms.{below-applied, Patterns}

@@ -9,8 +9,8 @@ use Rattle.definition.specs.Pack.{prop, Terms, nil, Pack, symbol_of, rule_of}
 use Rattle.definition.specs.Certificate.{count}
 use Rattle.definition.specs.Theory.{variable}
 use Rattle.definition.specs.Good.{SortedAll, Good}
-use Rattle.definition.specs.Laws.Prefix.{term_words, terms_words, term_length, terms_length}
-use Rattle.definition.specs.Laws.Suffix.{next, after, Ahead, a_variable, a_symbol, after_sorted, after-words, after-ahead, words_some, sorts-many, joined-many, none_left, judgments_sorted}
+use Rattle.definition.proofs.Laws.Prefix.{term_words, terms_words, term_length, terms_length}
+use Rattle.definition.proofs.Laws.Suffix.{next, after, Ahead, a_variable, a_symbol, after_sorted, after-words, after-ahead, words_some, sorts-many, joined-many, none_left, judgments_sorted}
 use Rattle.pack_read.specs.Reads.{rule_words}
 use Rattle.pack_read.specs.Held.{Proper}
 

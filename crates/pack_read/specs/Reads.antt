@@ -8,7 +8,7 @@ use Rattle.definition.specs.Little.{le}
 use Rattle.definition.specs.Pack.{Rule, Pack, empty, no_such_symbol, no_rule, no_node, no_step, symbol_of, rule_of, node_of, step_of, with_sort, with_symbol, with_rule, with_node, with_step, with_goal, with_result, with_cut, with_abstract}
 use Rattle.definition.specs.Certificate.{count}
 use Rattle.definition.specs.Theory.{words}
-use Rattle.definition.specs.Laws.Prefix.{term_words, terms_words}
+use Rattle.definition.proofs.Laws.Prefix.{term_words, terms_words}
 use Rattle.definition.specs.Verdict.{no_goal, no_result}
 use Rattle.definition.specs.Good.{no_cut, no_abstract}
 use Rattle.pack_tables.specs.Place.{Place, no_place, key_at, body_at}

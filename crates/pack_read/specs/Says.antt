@@ -7,7 +7,7 @@ use Rattle.definition.specs.Test.{◌and◌}
 use Rattle.definition.specs.Little.{le}
 use Rattle.definition.specs.Pack.{Symbol, Node, Step, Goal, Result, Cut, Abstract, Pack, symbol_of, rule_of, node_of, step_of}
 use Rattle.definition.specs.Certificate.{count}
-use Rattle.definition.specs.Laws.Put.{length-words}
+use Rattle.definition.proofs.Laws.Put.{length-words}
 use Rattle.definition.specs.Verdict.{no_goal, no_result}
 use Rattle.definition.specs.Good.{no_cut, no_abstract}
 use Rattle.pack_tables.specs.Place.{Place, no_place, key_at}

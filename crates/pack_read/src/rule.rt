@@ -3,7 +3,7 @@ ghost use Rattle.std.specs.Prelude.{◌≡◌, ◌+◌, ◌<◌, length, get_or}
 ghost use Rattle.definition.specs.Pack.{Terms, rule_of};
 ghost use Rattle.definition.specs.Certificate.{count};
 ghost use Rattle.definition.specs.Theory.{variable};
-ghost use Rattle.definition.specs.Laws.Prefix.{terms_words};
+ghost use Rattle.definition.proofs.Laws.Prefix.{terms_words};
 ghost use Rattle.pack_tables.specs.Catalog.{records_of};
 ghost use Rattle.pack_read.specs.Reads.{rule_words};
 ghost use Rattle.pack_read.specs.Says.{Readable, OfPack, WordOfRule};

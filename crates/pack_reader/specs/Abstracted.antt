@@ -6,7 +6,7 @@ use Rattle.definition.specs.Little.{le}
 use Rattle.definition.specs.Pack.{prop, Pack, Abstract, symbol_of, with_abstract}
 use Rattle.definition.specs.Frame.{good}
 use Rattle.definition.specs.Certificate.{take_abstract}
-use Rattle.definition.specs.Laws.DecideCertificate.{abstract_again, abstract-length, abstract-symbol, abstract_predicate, abstract_position, abstract-taken}
+use Rattle.definition.proofs.Laws.DecideCertificate.{abstract_again, abstract-length, abstract-symbol, abstract_predicate, abstract_position, abstract-taken}
 use Rattle.pack_tables.specs.Place.{Place, body_at}
 use Rattle.pack_tables.specs.Catalog.{records_of, EnteringIn, More}
 use Rattle.pack_tables.specs.declared.catalog.Catalog.{Catalog}

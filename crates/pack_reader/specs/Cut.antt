@@ -11,7 +11,7 @@ use Rattle.definition.specs.Pack.{prop, Cut, Pack, symbol_of, with_cut}
 use Rattle.definition.specs.Frame.{good}
 use Rattle.definition.specs.Theory.{words}
 use Rattle.definition.specs.Certificate.{take_cut}
-use Rattle.definition.specs.Laws.DecideCertificate.{cut_short, cut-symbol, cut_predicate, cut-length, cut_position, cut_again, cut-taken}
+use Rattle.definition.proofs.Laws.DecideCertificate.{cut_short, cut-symbol, cut_predicate, cut-length, cut_position, cut_again, cut-taken}
 use Rattle.pack_tables.specs.Place.{Place, no_place, body_at}
 use Rattle.pack_tables.specs.Catalog.{records_of, Fits, Cataloged, EnteringIn, More, records_few, records-set, cataloged_set}
 use Rattle.pack_tables.specs.declared.catalog.Catalog.{Catalog}

@@ -7,7 +7,7 @@ use Rattle.definition.specs.Pack.{prop, Pack, Goal, node_of, sort_of, with_goal}
 use Rattle.definition.specs.Frame.{good}
 use Rattle.definition.specs.Theory.{is_name}
 use Rattle.definition.specs.Certificate.{take_goal}
-use Rattle.definition.specs.Laws.DecideCertificate.{goal_short, goal-node, goal-judgment, goal_misnamed, goal_again, goal-taken}
+use Rattle.definition.proofs.Laws.DecideCertificate.{goal_short, goal-node, goal-judgment, goal_misnamed, goal_again, goal-taken}
 use Rattle.pack_tables.specs.Place.{Place, key_at, body_at}
 use Rattle.pack_tables.specs.Catalog.{records_of, Cataloged, EnteringIn, EntersIn}
 use Rattle.pack_tables.specs.declared.region.Entered.TheVariants.{New, Old}

@@ -8,7 +8,7 @@ use Rattle.definition.specs.Little.{le}
 use Rattle.definition.specs.Pack.{Pack, Cut}
 use Rattle.definition.specs.Good.{no_cut}
 use Rattle.definition.specs.Frame.{Checked, good, bad, over}
-use Rattle.definition.specs.Laws.Agreement.{any_some, some_any}
+use Rattle.definition.proofs.Laws.Agreement.{any_some, some_any}
 use Rattle.base.specs.Outside.{Outside, outside_wider}
 use Rattle.pack_tables.specs.Place.{Place}
 use Rattle.pack_tables.specs.Region.{size_for}

@@ -8,9 +8,9 @@ use Rattle.definition.specs.Pack.{Node, Pack, no_node, symbol_of, sort_of, node_
 use Rattle.definition.specs.Frame.{good}
 use Rattle.definition.specs.Theory.{words}
 use Rattle.definition.specs.Certificate.{is_arguments, same_node, take_node}
-use Rattle.definition.specs.Laws.Put.{Bytes, put-le, put-words-end, length-words}
-use Rattle.definition.specs.Laws.Decide.{arguments_turn, arguments_outside, arguments_unsorted, arguments_done, nodes-any, nodes-none}
-use Rattle.definition.specs.Laws.DecideCertificate.{node_short, node-head, node-length, node_arguments, node_again, node-taken}
+use Rattle.definition.proofs.Laws.Put.{Bytes, put-le, put-words-end, length-words}
+use Rattle.definition.proofs.Laws.Decide.{arguments_turn, arguments_outside, arguments_unsorted, arguments_done, nodes-any, nodes-none}
+use Rattle.definition.proofs.Laws.DecideCertificate.{node_short, node-head, node-length, node_arguments, node_again, node-taken}
 use Rattle.pack_tables.specs.Place.{Place, no_place, key_at, body_at}
 use Rattle.pack_tables.specs.Catalog.{records_of, Cataloged, EnteringIn, EntersIn, FindsIn}
 use Rattle.pack_tables.specs.declared.region.Entered.TheVariants.{New, Old}

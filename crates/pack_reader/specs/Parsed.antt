@@ -8,8 +8,8 @@ use Rattle.definition.specs.declared.Refusal.TheVariants.{Form, Limit}
 use Rattle.definition.specs.Pack.{Pack, empty}
 use Rattle.definition.specs.Frame.{fine, refuse}
 use Rattle.definition.specs.Parse.{kinds, take_record, parse}
-use Rattle.definition.specs.Laws.Frame.{records-end}
-use Rattle.definition.specs.Laws.Good.{empty_good}
+use Rattle.definition.proofs.Laws.Frame.{records-end}
+use Rattle.definition.proofs.Laws.Good.{empty_good}
 use Rattle.base.specs.Outside.{outside_then}
 use Rattle.base.specs.Part.{put, part-lent, length_part, put-lent, length-put, put-at, put-behind}
 use Rattle.pack_tables.specs.Catalog.{records_of, Fits, Cleared}

@@ -6,8 +6,8 @@ use Rattle.definition.specs.Test.{◌and◌}
 use Rattle.definition.specs.Little.{le}
 use Rattle.definition.specs.Pack.{Pack, prop, symbol_of}
 use Rattle.definition.specs.Theory.{words, variable, fits, wanted}
-use Rattle.definition.specs.Laws.Decide.{and_no_left}
-use Rattle.definition.specs.Laws.Put.{length-words}
+use Rattle.definition.proofs.Laws.Decide.{and_no_left}
+use Rattle.definition.proofs.Laws.Put.{length-words}
 use Rattle.pack_tables.specs.Place.{Place}
 use Rattle.pack_read.specs.Body.{body_of}
 use Rattle.pack_read.specs.Laws.{word-from}

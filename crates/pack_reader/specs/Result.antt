@@ -7,7 +7,7 @@ use Rattle.definition.specs.Pack.{Pack, Result, with_result}
 use Rattle.definition.specs.Frame.{good}
 use Rattle.definition.specs.Theory.{is_name}
 use Rattle.definition.specs.Certificate.{take_result}
-use Rattle.definition.specs.Laws.DecideCertificate.{result_short, result-step, result_misnamed, result_again, result-taken}
+use Rattle.definition.proofs.Laws.DecideCertificate.{result_short, result-step, result_misnamed, result_again, result-taken}
 use Rattle.pack_tables.specs.Place.{Place, key_at, body_at}
 use Rattle.pack_tables.specs.Catalog.{records_of, EnteringIn, EntersIn}
 use Rattle.pack_tables.specs.declared.region.Entered.TheVariants.{New, Old}

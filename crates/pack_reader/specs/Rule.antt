@@ -7,9 +7,9 @@ use Rattle.definition.specs.Little.{le}
 use Rattle.definition.specs.Pack.{Pack, Rule, no_rule, with_rule}
 use Rattle.definition.specs.Frame.{good, bad, over}
 use Rattle.definition.specs.Theory.{is_name, words, is_sort, take_rule}
-use Rattle.definition.specs.Laws.Decide.{sorts-all}
-use Rattle.definition.specs.Laws.Prefix.{RuleRead, rule_good}
-use Rattle.definition.specs.Laws.DecideRule.{vars_in, terms_in, rule_in, rule-count, rule-many, rule_short, rule_variables, rule-premises, rule-length, rule-sorts, rule_terms_bad, rule_terms_over, rule_misnamed, rule_again, rule-taken}
+use Rattle.definition.proofs.Laws.Decide.{sorts-all}
+use Rattle.definition.proofs.Laws.Prefix.{RuleRead, rule_good}
+use Rattle.definition.proofs.Laws.DecideRule.{vars_in, terms_in, rule_in, rule-count, rule-many, rule_short, rule_variables, rule-premises, rule-length, rule-sorts, rule_terms_bad, rule_terms_over, rule_misnamed, rule_again, rule-taken}
 use Rattle.pack_tables.specs.Place.{Place, key_at, body_at}
 use Rattle.pack_tables.specs.Catalog.{records_of, EnteringIn, EntersIn, FindsIn}
 use Rattle.pack_tables.specs.declared.region.Entered.TheVariants.{New, Old}

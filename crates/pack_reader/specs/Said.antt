@@ -4,7 +4,7 @@ use Rattle.std.proofs.Common.{sym, subst}
 use Rattle.definition.specs.Pack.{Pack}
 use Rattle.definition.specs.Frame.{fine}
 use Rattle.definition.specs.Parse.{parse}
-use Rattle.definition.specs.Laws.Good.{parsed_good, parsed_once, parsed_few}
+use Rattle.definition.proofs.Laws.Good.{parsed_good, parsed_once, parsed_few}
 use Rattle.pack_tables.specs.Catalog.{records_of, Cataloged}
 use Rattle.pack_tables.specs.declared.catalog.Catalog.{Catalog}
 use Rattle.pack_read.specs.Reads.{Reads}

@@ -5,7 +5,7 @@ use Rattle.definition.specs.Test.{and_parts}
 use Rattle.definition.specs.Pack.{Pack, with_sort}
 use Rattle.definition.specs.Frame.{good}
 use Rattle.definition.specs.Theory.{is_name, take_sort}
-use Rattle.definition.specs.Laws.DecideTheory.{sort-over, sort_misnamed, sort_again, sort-taken}
+use Rattle.definition.proofs.Laws.DecideTheory.{sort-over, sort_misnamed, sort_again, sort-taken}
 use Rattle.pack_tables.specs.Place.{Place, key_at}
 use Rattle.pack_tables.specs.Catalog.{records_of, EnteringIn, EntersIn}
 use Rattle.pack_tables.specs.declared.region.Entered.TheVariants.{New, Old}

@@ -2,7 +2,7 @@
 use Rattle.std.specs.Prelude.{List, [], ◌∷◌, ℕ, suc, ◌+◌, ◌<◌, length, get_or, drop}
 use Rattle.definition.specs.Little.{le}
 use Rattle.definition.specs.Pack.{Pack, node_of}
-use Rattle.definition.specs.Laws.Put.{Bytes, bytes_take, bytes_drop}
+use Rattle.definition.proofs.Laws.Put.{Bytes, bytes_take, bytes_drop}
 use Rattle.base.specs.Part.{part}
 use Rattle.pack_tables.specs.Place.{Place, body_at}
 use Rattle.pack_tables.specs.Catalog.{records_of, Cataloged}

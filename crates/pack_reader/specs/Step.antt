@@ -8,8 +8,8 @@ use Rattle.definition.specs.Pack.{prop, Step, Pack, rule_of, sort_of, node_of, w
 use Rattle.definition.specs.Frame.{good}
 use Rattle.definition.specs.Theory.{words}
 use Rattle.definition.specs.Certificate.{count, is_step, take_step}
-use Rattle.definition.specs.Laws.Decide.{steps_all}
-use Rattle.definition.specs.Laws.DecideCertificate.{step_short, step-rule, step-node, step-judgment, step-length, step-ref, step-taken}
+use Rattle.definition.proofs.Laws.Decide.{steps_all}
+use Rattle.definition.proofs.Laws.DecideCertificate.{step_short, step-rule, step-node, step-judgment, step-length, step-ref, step-taken}
 use Rattle.pack_tables.specs.Place.{Place, body_at}
 use Rattle.pack_tables.specs.Catalog.{records_of, EnteringIn, More}
 use Rattle.pack_tables.specs.declared.catalog.Catalog.{Catalog}

@@ -7,8 +7,8 @@ use Rattle.definition.specs.Little.{le}
 use Rattle.definition.specs.Pack.{prop, Pack, Symbol, with_symbol}
 use Rattle.definition.specs.Frame.{good, bad, over}
 use Rattle.definition.specs.Theory.{is_name, words, is_sort, is_output, take_symbol}
-use Rattle.definition.specs.Laws.Decide.{sorts-all, output_prop}
-use Rattle.definition.specs.Laws.DecideTheory.{symbol-over, symbol_short, symbol_wide, symbol-length, symbol_output, symbol_input, symbol_misnamed, symbol_again, symbol-taken}
+use Rattle.definition.proofs.Laws.Decide.{sorts-all, output_prop}
+use Rattle.definition.proofs.Laws.DecideTheory.{symbol-over, symbol_short, symbol_wide, symbol-length, symbol_output, symbol_input, symbol_misnamed, symbol_again, symbol-taken}
 use Rattle.pack_tables.specs.Place.{Place, key_at, body_at}
 use Rattle.pack_tables.specs.Catalog.{records_of, EnteringIn, EntersIn}
 use Rattle.pack_tables.specs.declared.region.Entered.TheVariants.{New, Old}

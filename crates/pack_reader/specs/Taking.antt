@@ -6,7 +6,7 @@ use Rattle.definition.specs.Little.{le}
 use Rattle.base.specs.Part.{part, part_at, part_is}
 use Rattle.definition.specs.Test.{◌and◌, any, same}
 use Rattle.definition.specs.Pack.{Pack}
-use Rattle.definition.specs.Laws.Decide.{names_any, names_none}
+use Rattle.definition.proofs.Laws.Decide.{names_any, names_none}
 use Rattle.definition.specs.Frame.{Checked, good, bad, over}
 use Rattle.pack_tables.specs.Place.{Place, no_place, end_of, key_at, body_at}
 use Rattle.pack_tables.specs.Catalog.{records_of, keyed_kind, cap_room, Cataloged, Beside, More, EnteringIn, EntersIn, FindsIn}

@@ -12,8 +12,8 @@ use Rattle.pack_tables.specs.Row.{le-drop}
 use Rattle.definition.specs.Pack.{Pack, prop, symbol_of}
 use Rattle.definition.specs.Frame.{Checked, good, bad, over, ◌>>=◌, right}
 use Rattle.definition.specs.Theory.{Unread, Word, next_word, variable, fits, wanted}
-use Rattle.definition.specs.Laws.Decide.{pass_right, stop_right, pass_within, stop_within}
-use Rattle.definition.specs.Laws.Prefix.{read_all, read_step}
+use Rattle.definition.proofs.Laws.Decide.{pass_right, stop_right, pass_within, stop_within}
+use Rattle.definition.proofs.Laws.Prefix.{read_all, read_step}
 
 -- the symbol of a frame, and its next argument
 abbrev pub frame_symbol : List ℕ → ℕ → ℕ

@@ -5,7 +5,7 @@ use Rattle.std.proofs.Math.Numerals.{add-one}
 use Rattle.definition.specs.Pack.{Pack, prop}
 use Rattle.definition.specs.Frame.{Checked, good, bad, over}
 use Rattle.definition.specs.Theory.{Unread, words}
-use Rattle.definition.specs.Laws.Prefix.{read_all}
+use Rattle.definition.proofs.Laws.Prefix.{read_all}
 use Rattle.pack_tables.specs.Place.{Place}
 use Rattle.pack_read.specs.Reads.{Reads}
 use Rattle.pack_reader.specs.Terms.{wanted_by, unread_at}

@@ -6,7 +6,7 @@ use Rattle.definition.specs.Little.{le}
 use Rattle.definition.specs.Pack.{Pack, symbol_of}
 use Rattle.definition.specs.Frame.{Checked, good, bad, over}
 use Rattle.definition.specs.Theory.{Unread, words, variable, fits, wanted}
-use Rattle.definition.specs.Laws.Prefix.{read_all, read_done}
+use Rattle.definition.proofs.Laws.Prefix.{read_all, read_done}
 use Rattle.pack_tables.specs.Place.{Place}
 use Rattle.pack_read.specs.Reads.{Reads, length_symbols}
 use Rattle.pack_tables.specs.Name.{denied, not_denied}

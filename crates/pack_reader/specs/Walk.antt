@@ -8,8 +8,8 @@ use Rattle.definition.specs.Pack.{Pack, Node, node_of}
 use Rattle.definition.specs.Frame.{refuse, records}
 use Rattle.definition.specs.Parse.{kinds, take_record, parse}
 use Rattle.definition.specs.Good.{Good}
-use Rattle.definition.specs.Laws.Frame.{records-one, records_bad, records-over, records-cut}
-use Rattle.definition.specs.Laws.Good.{record_good}
+use Rattle.definition.proofs.Laws.Frame.{records-one, records_bad, records-over, records-cut}
+use Rattle.definition.proofs.Laws.Good.{record_good}
 use Rattle.base.specs.Part.{part}
 use Rattle.pack_tables.specs.Place.{Place}
 use Rattle.pack_tables.specs.Catalog.{records_of}

@@ -2,7 +2,7 @@
 use Rattle.std.specs.Prelude.{◌≡◌, List, [], ◌∷◌, ◌++◌, ℕ, ◌+◌, ◌-◌, ◌*◌, ◌/◌, ◌≤◌, ◌<◌, length, get_or, set, drop}
 use Rattle.definition.specs.Pack.{Node, no_node}
 use Rattle.definition.specs.Store.{intern, pattern_words, nodes_in, nothing}
-use Rattle.definition.specs.Laws.Store.{StoreOnce}
+use Rattle.definition.proofs.Laws.Store.{StoreOnce}
 use Rattle.base.specs.Part.{part}
 use Rattle.base.specs.Probe.{Table, Passed}
 use Rattle.base.specs.Hash.{hash_of}

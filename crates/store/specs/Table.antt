@@ -10,7 +10,7 @@ use Rattle.std.proofs.Math.Seq.{get_or-set_same, get_or-set_other}
 use Rattle.definition.specs.Test.{same, same_true}
 use Rattle.definition.specs.Pack.{Node, no_node}
 use Rattle.definition.specs.Store.{Stored as Placing, pattern_words, nodes_in}
-use Rattle.definition.specs.Laws.Store.{StoreOnce, intern-old, intern-new}
+use Rattle.definition.proofs.Laws.Store.{StoreOnce, intern-old, intern-new}
 use Rattle.base.specs.Part.{part, put, part_at, length_part, part-set, part-set-before, part-put, put-before, length-put}
 use Rattle.base.specs.Same.{same_false}
 use Rattle.base.specs.Probe.{Table, Ran, Passed, taken, grown, absent, table_empty}

@@ -5,7 +5,7 @@ use Rattle.std.proofs.Math.Seq.{split_at, take-length, drop-append-add, take-app
 use Rattle.std.proofs.lemmas.List.{get_or_at, take-append-le}
 use Rattle.definition.specs.Pack.{Node, no_node}
 use Rattle.definition.specs.Store.{pattern_words, nodes_in}
-use Rattle.definition.specs.Laws.Store.{nodes-back}
+use Rattle.definition.proofs.Laws.Store.{nodes-back}
 use Rattle.base.specs.Part.{part}
 
 -- a node's head and arguments, as a key gives them

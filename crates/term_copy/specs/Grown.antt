@@ -11,7 +11,7 @@ use Rattle.definition.specs.Test.{is, see}
 use Rattle.definition.specs.Pack.{Node, no_node}
 use Rattle.definition.specs.Store.{is_variable, variable_head, below}
 use Rattle.definition.specs.Good.{Below}
-use Rattle.definition.specs.Laws.Grow.{below_more}
+use Rattle.definition.proofs.Laws.Grow.{below_more}
 use Rattle.definition.specs.Verdict.{Bound, value_of}
 use Rattle.definition.specs.Graph.{Vertex, applied, cells, push}
 use Rattle.definition.specs.Analysis.{copied, Copy, pairing, copy_node}

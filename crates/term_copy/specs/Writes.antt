@@ -8,7 +8,7 @@ use Rattle.std.proofs.Math.ListN.{get_or-eq_default}
 use Rattle.definition.specs.Test.{is, see}
 use Rattle.definition.specs.Store.{variable_head}
 use Rattle.definition.specs.Good.{Below}
-use Rattle.definition.specs.Laws.Grow.{map_at, below_at}
+use Rattle.definition.proofs.Laws.Grow.{map_at, below_at}
 use Rattle.base.specs.Part.{take-copied}
 use Rattle.base.specs.Outside.{Outside, outside_none, outside_set}
 use Rattle.memo.specs.Recall.{known}

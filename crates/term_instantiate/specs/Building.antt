@@ -5,7 +5,7 @@ use Rattle.definition.specs.Pack.{Term, nil, cons, Pack, rule_of}
 use Rattle.definition.specs.Good.{Sorted, Below}
 use Rattle.definition.specs.Graph.{Graph, cells as cells_of}
 use Rattle.definition.specs.Analysis.{GrownAll, instantiate, instantiate_all}
-use Rattle.definition.specs.Laws.Prefix.{term_words}
+use Rattle.definition.proofs.Laws.Prefix.{term_words}
 use Rattle.base.specs.Outside.{Outside}
 use Rattle.base.specs.Part.{part}
 use Rattle.pack_tables.specs.SameTables.{Same, end_of}
@@ -21,7 +21,7 @@ use Rattle.theory.specs.Unification.Inner.{Inner}
 use Rattle.term_instantiate.specs.declared.terms.Place.{Place}
 use Rattle.term_instantiate.specs.declared.terms.Taken.{Taken}
 use Rattle.term_instantiate.specs.declared.terms.Taken.TheVariants.{On, Short as Full}
-use Rattle.definition.specs.Laws.Suffix.{after}
+use Rattle.definition.proofs.Laws.Suffix.{after}
 
 -- a term of a rule, whose words are the rule's from one place to another
 pub record Spells (P : Pack) (r vars from to : ℕ) (t : Term) : Type 0 where

@@ -4,7 +4,7 @@ use Rattle.std.proofs.Common.{sym, subst, ◌∙◌, arith}
 use Rattle.definition.specs.Pack.{Term, Pack}
 use Rattle.definition.specs.Good.{Below}
 use Rattle.definition.specs.Graph.{Graph}
-use Rattle.definition.specs.Laws.Prefix.{term_words}
+use Rattle.definition.proofs.Laws.Prefix.{term_words}
 use Rattle.base.specs.Outside.{outside_none, outside_then}
 use Rattle.base.specs.declared.id.Node.{Node}
 use Rattle.pack_tables.specs.SameTables.{Same}

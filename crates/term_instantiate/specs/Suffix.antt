@@ -6,8 +6,8 @@ use Rattle.definition.specs.Pack.{Terms, var, app, nil, cons, Pack}
 use Rattle.definition.specs.Good.{SortedAll}
 use Rattle.definition.specs.Graph.{Graph, applied, push}
 use Rattle.definition.specs.Analysis.{GrownAll, instantiate, instantiate_all}
-use Rattle.definition.specs.Laws.Prefix.{terms_words}
-use Rattle.definition.specs.Laws.Suffix.{joined, next, after, after_sorted, after-words, words_some}
+use Rattle.definition.proofs.Laws.Prefix.{terms_words}
+use Rattle.definition.proofs.Laws.Suffix.{joined, next, after, after_sorted, after-words, words_some}
 
 -- nodes of terms, with the graph that has them
 abbrev grown_all : List ℕ → Graph → GrownAll

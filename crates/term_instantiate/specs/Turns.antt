@@ -10,10 +10,10 @@ use Rattle.std.proofs.Math.Seq.{take-append_seam, drop-append_seam}
 use Rattle.definition.specs.Pack.{Term, app, nil, cons, Pack, symbol_of, rule_of}
 use Rattle.definition.specs.Theory.{variable}
 use Rattle.definition.specs.Good.{SortedAll, Below, Few}
-use Rattle.definition.specs.Laws.Grow.{below_more, below_at}
+use Rattle.definition.proofs.Laws.Grow.{below_more, below_at}
 use Rattle.definition.specs.Graph.{Graph, applied, push, cells as cells_of}
 use Rattle.definition.specs.Analysis.{GrownAll}
-use Rattle.definition.specs.Laws.Prefix.{term_words, terms_words}
+use Rattle.definition.proofs.Laws.Prefix.{term_words, terms_words}
 use Rattle.base.specs.Lent.{back as lent_back, back-first}
 use Rattle.base.specs.Part.{put}
 use Rattle.base.specs.declared.id.Node.{Node}
@@ -25,7 +25,7 @@ use Rattle.graph.specs.Cells.{rows_end, Shows, Unchanged, cells-more}
 use Rattle.graph.specs.Pushes.{Pushes}
 use Rattle.theory.specs.Unification.Inner.{inner_more}
 use Rattle.term_instantiate.specs.declared.terms.Place.{Place}
-use Rattle.definition.specs.Laws.Suffix.{after, Ahead, a_variable, a_symbol, after-ahead, all_words}
+use Rattle.definition.proofs.Laws.Suffix.{after, Ahead, a_variable, a_symbol, after-ahead, all_words}
 use Rattle.term_instantiate.specs.Suffix.{after_few, nodes-many, variable-nodes, symbol-nodes}
 use Rattle.term_instantiate.specs.Building.{Spells, table_in, Room, Beside, nodes_of, Built}
 

@@ -11,12 +11,12 @@ use Rattle.definition.specs.Pack.{Term, Terms, nil, cons, Pack, rule_of}
 use Rattle.definition.specs.Good.{Below}
 use Rattle.definition.specs.Graph.{Graph, applied, push, cells as cells_of}
 use Rattle.definition.specs.Analysis.{GrownAll, instantiate, instantiate_all}
-use Rattle.definition.specs.Laws.Prefix.{term_words, terms_words}
+use Rattle.definition.proofs.Laws.Prefix.{term_words, terms_words}
 use Rattle.graph.specs.declared.graph.Graph.{Graph as Counts}
 use Rattle.graph.specs.Cells.{Shows, cells-more}
 use Rattle.theory.specs.Unification.Inner.{Inner}
 use Rattle.term_instantiate.specs.declared.terms.Place.{Place}
-use Rattle.definition.specs.Laws.Suffix.{after, Ahead, a_variable, a_symbol, after-words, after-ahead, all_words, no_words}
+use Rattle.definition.proofs.Laws.Suffix.{after, Ahead, a_variable, a_symbol, after-words, after-ahead, all_words, no_words}
 use Rattle.term_instantiate.specs.Suffix.{variable-nodes, symbol-nodes}
 use Rattle.term_instantiate.specs.Building.{Spells, table_in, nodes_of, Built}
 

@@ -3,7 +3,7 @@ use Rattle.std.specs.Prelude.{◌≡◌, List, [], ◌∷◌, ◌++◌, map, ℕ
 use Rattle.std.proofs.Common.{sym, ap, ◌∙◌, add-one, arith, length-set, take-suc, take-suc-set, take_all}
 use Rattle.std.proofs.lemmas.List.{map-append}
 use Rattle.definition.specs.Pack.{Pack, node_of, symbol_of}
-use Rattle.definition.specs.Laws.Tree.{arguments_many}
+use Rattle.definition.proofs.Laws.Tree.{arguments_many}
 use Rattle.theory.specs.Walks.Walk.{under_at, below-under}
 use Rattle.theory.specs.Walks.Lifting.{args_of, args_inside}
 use Rattle.pack_tables.specs.Catalog.{records_of}

@@ -13,7 +13,7 @@ use Rattle.definition.specs.Pack.{Pack}
 use Rattle.definition.specs.Verdict.{Bound, value_of}
 use Rattle.definition.specs.Graph.{Graph, vertex, root, is_var}
 use Rattle.definition.specs.Classes.{is_some}
-use Rattle.definition.specs.Laws.Grow.{map_at}
+use Rattle.definition.proofs.Laws.Grow.{map_at}
 use Rattle.theory.specs.Walks.Walk.{Known}
 use Rattle.theory.specs.Walks.Machine.{Frame, frame, Walking, walking, turn, height, turn-kept}
 use Rattle.theory.specs.Walks.Memo.{has}

@@ -8,7 +8,7 @@ use Rattle.definition.specs.Verdict.{Bound}
 use Rattle.definition.specs.Store.{variable_head, intern, pattern_words}
 use Rattle.definition.specs.Graph.{Graph, vertex, root}
 use Rattle.definition.specs.Analysis.{lift, ResolvedOne, copied}
-use Rattle.definition.specs.Laws.Grow.{map_at}
+use Rattle.definition.proofs.Laws.Grow.{map_at}
 use Rattle.theory.specs.Patterns.Interned.{interned, lifted}
 use Rattle.theory.specs.Walks.Levels.{roots_applied}
 use Rattle.theory.specs.Walks.Walk.{Known, under_at, below-under}

@@ -10,8 +10,8 @@ use Rattle.definition.specs.Verdict.{Bound, value_of}
 use Rattle.definition.specs.Good.{Good, Below}
 use Rattle.definition.specs.Graph.{Graph, Pair, vertex, is_var}
 use Rattle.definition.specs.Analysis.{pairing}
-use Rattle.definition.specs.Laws.Tree.{args-below}
-use Rattle.definition.specs.Laws.Grow.{below_more}
+use Rattle.definition.proofs.Laws.Tree.{args-below}
+use Rattle.definition.proofs.Laws.Grow.{below_more}
 use Rattle.theory.specs.Walks.Ahead.{rights, ahead, ahead-rights}
 use Rattle.theory.specs.Walks.Valuing.{Valuing, valuing, take_value}
 

@@ -10,7 +10,7 @@ use Rattle.definition.specs.Test.{is, see, never}
 use Rattle.definition.specs.Pack.{Node, Pack, most_arity, no_node, no_such_symbol, node_of, symbol_of}
 use Rattle.definition.specs.Good.{Below, Good, Few}
 use Rattle.definition.specs.Store.{variable_head, is_variable, below}
-use Rattle.definition.specs.Laws.Tree.{args-below}
+use Rattle.definition.proofs.Laws.Tree.{args-below}
 use Rattle.theory.specs.Copies.Terms.{Earlier, below-applied}
 use Rattle.theory.specs.Making.Lifts.{ground_few}
 use Rattle.base.specs.Part.{part, part_same}

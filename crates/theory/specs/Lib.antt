@@ -8,5 +8,3 @@ pub mod Classes
 pub mod Walks
 pub mod Making
 pub mod Principal
-pub mod DemandThree
-pub mod Teeth

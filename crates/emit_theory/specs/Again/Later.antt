@@ -3,7 +3,7 @@ use Rattle.std.specs.Prelude.{◌≡◌, refl, List, ℕ, ◌<◌, length}
 use Rattle.std.proofs.Common.{◌∙◌, arith}
 use Rattle.definition.specs.Pack.{Node, no_node}
 use Rattle.definition.specs.Good.{Below}
-use Rattle.definition.specs.Laws.Grow.{below_more}
+use Rattle.definition.proofs.Laws.Grow.{below_more}
 use Rattle.definition.specs.Verdict.{Bound}
 use Rattle.emission.specs.Render.{proof_text}
 use Rattle.emission.specs.State.{Emitter, Setting}

@@ -5,9 +5,9 @@ use Rattle.std.proofs.Math.Option.{Option, none, some}
 use Rattle.definition.specs.Test.{is, see, never}
 use Rattle.definition.specs.Pack.{Term, Terms, var, app, nil, cons, Node, no_node, Pack, node_of}
 use Rattle.definition.specs.Good.{Below, Sorted, SortedAll, Few}
-use Rattle.definition.specs.Laws.Grow.{below_more}
+use Rattle.definition.proofs.Laws.Grow.{below_more}
 use Rattle.definition.specs.Verdict.{Bound, value_of, bound, provided, onwards, matches, match_all}
-use Rattle.definition.specs.Laws.Agreement.{onwards-same}
+use Rattle.definition.proofs.Laws.Agreement.{onwards-same}
 use Rattle.emission.specs.Patterns.{over}
 use Rattle.theory.specs.Copies.Terms.{Earlier, below-applied}
 use Rattle.theory.specs.Patterns.Interned.{Grows, grows_at}

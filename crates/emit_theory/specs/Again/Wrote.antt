@@ -9,7 +9,7 @@ use Rattle.std.proofs.Math.ListN.{length}
 use Rattle.definition.specs.Run.{Note, behind, ◌>>=◌ as ◌>>=r◌}
 use Rattle.emission.specs.Line.{Word, Line, step_line_of}
 use Rattle.emission.specs.Render.{proof_text}
-use Rattle.emission.specs.Laws.Text.{text_grows}
+use Rattle.emission.proofs.Laws.Text.{text_grows}
 use Rattle.emission.specs.State.{Emitter, Setting, Search, ◌>>=◌, give, now, change, write, write_step, having_lines, having_def}
 use Rattle.emission.specs.Words.{pattern_of, word_of, define, word, words, judgment, step}
 use Rattle.emit_theory.specs.Came.{came, then_some}

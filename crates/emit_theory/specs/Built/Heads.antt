@@ -7,7 +7,7 @@ use Rattle.std.proofs.lemmas.List.{get_or_at}
 use Rattle.definition.specs.Test.{is, see, never, ◌and◌}
 use Rattle.definition.specs.Pack.{prop, Term, Terms, var, app, nil, cons, no_node, Pack, rule_of}
 use Rattle.definition.specs.Good.{Below, Sorted, Few}
-use Rattle.definition.specs.Laws.Grow.{below_at}
+use Rattle.definition.proofs.Laws.Grow.{below_at}
 use Rattle.definition.specs.Store.{variable_head}
 use Rattle.definition.specs.Graph.{Vertex, Graph, applied, vertex, push, is_var, is_free, root, Pair, clashed, meet, Unified, unify, cells}
 use Rattle.definition.specs.Analysis.{instantiate, instantiate_all}

@@ -7,7 +7,7 @@ use Rattle.std.proofs.Math.Option.{none}
 use Rattle.definition.specs.Test.{never, all, ◌and◌}
 use Rattle.definition.specs.Pack.{Node, no_node, Pack}
 use Rattle.definition.specs.Good.{Below, Good, Few}
-use Rattle.definition.specs.Laws.Grow.{below_more}
+use Rattle.definition.proofs.Laws.Grow.{below_more}
 use Rattle.definition.specs.Verdict.{Bound}
 use Rattle.definition.specs.Store.{is_variable}
 use Rattle.definition.specs.Graph.{Vertex, Graph, vertex, root, is_var, ends, circular}

@@ -12,8 +12,8 @@ use Rattle.definition.specs.Test.{is, see, never}
 use Rattle.definition.specs.Pack.{Pack, symbol_of, node_of, sort_of}
 use Rattle.definition.specs.Good.{Below, Arguments, Good}
 use Rattle.definition.specs.Verdict.{Bound, value_of}
-use Rattle.definition.specs.Laws.Agreement.{onwards_some}
-use Rattle.definition.specs.Laws.Matches.{Extends}
+use Rattle.definition.proofs.Laws.Agreement.{onwards_some}
+use Rattle.definition.proofs.Laws.Matches.{Extends}
 use Rattle.definition.specs.Graph.{Graph, vertex, root, is_var}
 use Rattle.definition.specs.Classes.{is_some}
 use Rattle.definition.specs.Analysis.{pairing, value_at, valued}

@@ -6,8 +6,8 @@ use Rattle.definition.specs.Test.{is, see, never}
 use Rattle.definition.specs.Pack.{Term, Terms, var, app, nil, cons, Pack, symbol_of, node_of, sort_of}
 use Rattle.definition.specs.Good.{Arguments, Good}
 use Rattle.definition.specs.Verdict.{Bound, value_of, bound, matches, match_all}
-use Rattle.definition.specs.Laws.Agreement.{onwards_some}
-use Rattle.definition.specs.Laws.Matches.{Extends}
+use Rattle.definition.proofs.Laws.Agreement.{onwards_some}
+use Rattle.definition.proofs.Laws.Matches.{Extends}
 use Rattle.definition.specs.Analysis.{pairing}
 use Rattle.theory.specs.Copies.Copying.{value_of_new, value_of_old, value_apart}
 use Rattle.theory.specs.Making.Values.{Grounded, provided-parts}

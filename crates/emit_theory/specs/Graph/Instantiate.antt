@@ -3,7 +3,7 @@ use Rattle.std.specs.Prelude.{◌≡◌, List, [], ◌∷◌, ℕ, ◌<◌, leng
 use Rattle.std.proofs.Common.{◌∙◌}
 use Rattle.definition.specs.Pack.{Term, Terms, var, app, nil, cons, Pack, symbol_of}
 use Rattle.definition.specs.Good.{Sorted, SortedAll, Few}
-use Rattle.definition.specs.Laws.Grow.{below_more}
+use Rattle.definition.proofs.Laws.Grow.{below_more}
 use Rattle.definition.specs.Graph.{Graph, Grown, applied, push}
 use Rattle.definition.specs.Analysis.{GrownAll, instantiate, instantiate_all}
 use Rattle.theory.specs.Copies.Begin.{begins_refl, begins_trans, SortsAt-begins}

@@ -6,7 +6,7 @@ use Rattle.std.proofs.lemmas.List.{get_or_at}
 use Rattle.definition.specs.Test.{is, see, never, tests}
 use Rattle.definition.specs.Pack.{Node, no_node, Pack, symbol_of}
 use Rattle.definition.specs.Good.{Few}
-use Rattle.definition.specs.Laws.Grow.{length_more}
+use Rattle.definition.proofs.Laws.Grow.{length_more}
 use Rattle.definition.specs.Store.{variable_head, variable_node, is_variable, place_of, Stored, intern}
 use Rattle.theory.specs.Copies.Copying.{pattern_sort}
 use Rattle.theory.specs.Patterns.Interned.{Grows, with, grows_at, interned}

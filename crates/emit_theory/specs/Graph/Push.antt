@@ -6,7 +6,7 @@ use Rattle.definition.specs.Test.{never}
 use Rattle.definition.specs.Pack.{Pack, symbol_of}
 use Rattle.definition.specs.Store.{variable_head}
 use Rattle.definition.specs.Good.{Below, Few}
-use Rattle.definition.specs.Laws.Grow.{below_more}
+use Rattle.definition.proofs.Laws.Grow.{below_more}
 use Rattle.definition.specs.Graph.{Vertex, Graph, variable_vertex, applied, vertex, Grown, push, is_var, up_to}
 use Rattle.definition.specs.Analysis.{GrownAll}
 use Rattle.theory.specs.Unification.Solve.{sort_at, SortsAt, Begins}

@@ -14,7 +14,7 @@ use Rattle.definition.specs.Store.{variable_node, intern}
 use Rattle.definition.specs.Analysis.{pairing}
 use Rattle.definition.specs.Run.{Run}
 use Rattle.emission.specs.Line.{Line, var_line, Tally, counting, tally}
-use Rattle.emission.specs.Laws.Text.{tally-one-more}
+use Rattle.emission.proofs.Laws.Text.{tally-one-more}
 use Rattle.emission.specs.State.{Emitter, Setting, Tried, ◌>>=◌, change, grown_to, interned, write, having_name}
 use Rattle.emission.specs.Induct.{case_number, case_variables}
 use Rattle.theory.specs.Copies.Copying.{value_of_new}

@@ -5,7 +5,7 @@ use Rattle.std.proofs.Math.Option.{Option, none}
 use Rattle.definition.specs.Pack.{prop}
 use Rattle.definition.specs.Frame.{fine}
 use Rattle.definition.specs.Parse.{parse}
-use Rattle.definition.specs.Laws.Good.{parsed_good, parsed_few}
+use Rattle.definition.proofs.Laws.Good.{parsed_good, parsed_few}
 use Rattle.definition.specs.Verdict.{Bound}
 use Rattle.definition.specs.Run.{Note}
 use Rattle.emission.specs.State.{Emitter, Setting}

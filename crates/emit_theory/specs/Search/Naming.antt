@@ -13,7 +13,7 @@ use Rattle.definition.specs.Pack.{var, app, cons, Node, no_node}
 use Rattle.definition.specs.Good.{Below}
 use Rattle.definition.specs.Verdict.{value_of}
 use Rattle.definition.specs.Store.{variable_node, is_variable, term_of}
-use Rattle.definition.specs.Laws.Grow.{below_more}
+use Rattle.definition.proofs.Laws.Grow.{below_more}
 use Rattle.definition.specs.Run.{Run}
 use Rattle.emission.specs.Line.{Word, constant, defined, variable, Line, def_line, tally}
 use Rattle.emission.specs.State.{Emitter, Setting, Tried, ◌>>=◌, give, change, write, having_lines, having_def}

@@ -14,7 +14,7 @@ use Rattle.definition.specs.Good.{Below, Few}
 use Rattle.definition.specs.Verdict.{Bound, value_of}
 use Rattle.definition.specs.Store.{is_variable, below, Stored, intern}
 use Rattle.definition.specs.Analysis.{StoredAll}
-use Rattle.definition.specs.Laws.Grow.{below_more}
+use Rattle.definition.proofs.Laws.Grow.{below_more}
 use Rattle.emission.specs.Patterns.{replace_in, replace}
 use Rattle.theory.specs.Copies.Copying.{pattern_sort}
 use Rattle.theory.specs.Copies.Terms.{below-variable, below-applied}

@@ -7,7 +7,7 @@ use Rattle.std.proofs.lemmas.List.{get_or_at}
 use Rattle.definition.specs.Pack.{app, no_node}
 use Rattle.definition.specs.Good.{Below}
 use Rattle.definition.specs.Store.{is_variable, term_of}
-use Rattle.definition.specs.Laws.Grow.{below_more}
+use Rattle.definition.proofs.Laws.Grow.{below_more}
 use Rattle.emission.specs.Line.{Judgment, Line, step_line_of, tally}
 use Rattle.emission.specs.State.{Emitter, Setting, give, write, write_step, having_lines}
 use Rattle.emission.specs.Words.{words, judgment, step}

@@ -9,7 +9,7 @@ use Rattle.std.proofs.Math.ListN.{length, get_or}
 use Rattle.definition.specs.Pack.{prop, Pack, node_of, step_of}
 use Rattle.definition.specs.Frame.{fine}
 use Rattle.definition.specs.Parse.{parse}
-use Rattle.definition.specs.Laws.Good.{parsed_good, parsed_few}
+use Rattle.definition.proofs.Laws.Good.{parsed_good, parsed_few}
 use Rattle.definition.specs.Good.{Below, Good, Few}
 use Rattle.definition.specs.Store.{term_of}
 use Rattle.definition.specs.Graph.{up_to}
@@ -17,7 +17,7 @@ use Rattle.definition.specs.Run.{Note, Run, done, behind, ◌>>=◌, or_else}
 use Rattle.definition.specs.declared.Refusal.TheVariants.{Ground}
 use Rattle.definition.specs.Keys.{needed_below, predicate_of, is_a_cut}
 use Rattle.definition.specs.Calls.{Classed, class_run}
-use Rattle.definition.specs.Laws.Grow.{below_both}
+use Rattle.definition.proofs.Laws.Grow.{below_both}
 use Rattle.emission.specs.Line.{Line, result_line, GoalLine}
 use Rattle.emission.specs.Written.{only_l}
 use Rattle.emission.specs.State.{Emitter, Setting, Tried, having_lines, restored}

@@ -11,7 +11,7 @@ use Rattle.definition.specs.Test.{is, see, never, any, all, and_parts}
 use Rattle.definition.specs.Pack.{prop, Term, Terms, var, app, nil, cons, Pack, symbol_of, node_of, sort_of}
 use Rattle.definition.specs.Good.{Below, Arguments, Good, Few}
 use Rattle.definition.specs.Verdict.{Bound, value_of, bound, matches, match_all}
-use Rattle.definition.specs.Laws.Agreement.{onwards_some}
+use Rattle.definition.proofs.Laws.Agreement.{onwards_some}
 use Rattle.definition.specs.Analysis.{pairing}
 use Rattle.definition.specs.Keys.{is_a_cut}
 use Rattle.definition.specs.Goals.{Root}

@@ -10,7 +10,7 @@ use Rattle.definition.specs.Good.{Good}
 use Rattle.definition.specs.Store.{nothing}
 use Rattle.definition.specs.Keys.{no_keyed, key_of, needed, keyed}
 use Rattle.definition.specs.Classes.{Class, no_class, Built}
-use Rattle.definition.specs.Laws.Store.{StoreOnce}
+use Rattle.definition.proofs.Laws.Store.{StoreOnce}
 use Rattle.theory.specs.Derive.{InstanceOf, StepOf}
 use Rattle.theory.specs.Classes.Steps.{Concludes}
 use Rattle.theory.specs.Keys.Needed.{Among}

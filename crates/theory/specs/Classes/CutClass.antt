@@ -10,7 +10,7 @@ use Rattle.definition.specs.Analysis.{StoredAll}
 use Rattle.definition.specs.Run.{Note, Run, done, behind, ◌>>=◌}
 use Rattle.definition.specs.Keys.{predicate_of, is_a_cut, cut_key, rule_key, no_keyed, key_of, keyed}
 use Rattle.definition.specs.Classes.{Class, Built, add_class, fresh_variables, make_cut}
-use Rattle.definition.specs.Laws.Store.{StoreOnce}
+use Rattle.definition.proofs.Laws.Store.{StoreOnce}
 use Rattle.theory.specs.Derive.{SortedTrees, Judgment, InstanceOf, Derivation, leaf, by, StepOf, Shape}
 use Rattle.theory.specs.Classes.Steps.{Concludes}
 use Rattle.theory.specs.Keys.KeyedLaws.{keyed-kept}

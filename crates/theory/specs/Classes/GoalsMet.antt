@@ -11,7 +11,7 @@ use Rattle.definition.specs.Pack.{Goal, Result, Pack, step_of}
 use Rattle.definition.specs.Tree.{tree_of}
 use Rattle.definition.specs.Good.{Good, Once, Few}
 use Rattle.definition.specs.Verdict.{no_goal, no_result, Met, Accepted, Bound, value_of}
-use Rattle.definition.specs.Laws.Matches.{Agrees, Given, complete}
+use Rattle.definition.proofs.Laws.Matches.{Agrees, Given, complete}
 use Rattle.definition.specs.Store.{nothing, term_of}
 use Rattle.definition.specs.Keys.{first_of, needed, keyed}
 use Rattle.definition.specs.Run.{Note, done, behind, ◌>>=◌, or_else, need}

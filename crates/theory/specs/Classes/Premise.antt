@@ -5,12 +5,12 @@ use Rattle.std.proofs.Math.Option.{Option, none, some}
 use Rattle.definition.specs.Test.{is}
 use Rattle.definition.specs.Pack.{prop, Term, Terms, var, app, nil, cons, Node, Pack, symbol_of}
 use Rattle.definition.specs.Tree.{Tree, tree, tree_then, turn, turns}
-use Rattle.definition.specs.Laws.Grow.{below_at}
+use Rattle.definition.proofs.Laws.Grow.{below_at}
 use Rattle.definition.specs.Good.{Below, Sorted, SortedAll, Few}
 use Rattle.definition.specs.Store.{term_of}
 use Rattle.definition.specs.Graph.{Graph, Grown, unify}
 use Rattle.definition.specs.Analysis.{Copy, copied, copy, instantiate}
-use Rattle.definition.specs.Laws.Store.{StoreOnce}
+use Rattle.definition.proofs.Laws.Store.{StoreOnce}
 use Rattle.theory.specs.Unification.Solve.{Solves, sort_at, Formed, SameNodes}
 use Rattle.theory.specs.Copies.Begin.{begins_trans, solves_begins, sort_at_begins}
 use Rattle.theory.specs.Copies.Push.{Extends}

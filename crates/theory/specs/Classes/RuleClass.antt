@@ -11,8 +11,8 @@ use Rattle.definition.specs.Pack.{prop, Terms, nil, cons, Rule, no_node, Pack, r
 use Rattle.definition.specs.Tree.{Tree, tree_then, turn, turns}
 use Rattle.definition.specs.Verdict.{Bound, judgments, Accepted}
 use Rattle.definition.specs.Good.{Below, Judgments, GoodRule, Good, Once, Few}
-use Rattle.definition.specs.Laws.Grow.{below_more}
-use Rattle.definition.specs.Laws.Agreement.{judged, judgments-pick, judged-below}
+use Rattle.definition.proofs.Laws.Grow.{below_more}
+use Rattle.definition.proofs.Laws.Agreement.{judged, judgments-pick, judged-below}
 use Rattle.definition.specs.Store.{nothing, is_variable}
 use Rattle.definition.specs.Graph.{vertex, circular, ends, up_to}
 use Rattle.definition.specs.Analysis.{Resolved, instantiate, valued, resolve}

@@ -8,7 +8,7 @@ use Rattle.definition.specs.Pack.{prop, Terms, nil, cons, Rule, Pack, rule_of, s
 use Rattle.definition.specs.Tree.{Tree, Trees, turn, turns}
 use Rattle.definition.specs.Verdict.{Bound}
 use Rattle.definition.specs.Good.{Below, GoodRule, Good, Few}
-use Rattle.definition.specs.Laws.Grow.{below_more}
+use Rattle.definition.proofs.Laws.Grow.{below_more}
 use Rattle.definition.specs.Graph.{Graph, Grown, up_to}
 use Rattle.definition.specs.Analysis.{Resolved, instantiate, resolve}
 use Rattle.definition.specs.Run.{Run}

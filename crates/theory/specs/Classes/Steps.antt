@@ -7,8 +7,8 @@ use Rattle.definition.specs.Test.{is, see, never, any}
 use Rattle.definition.specs.Pack.{prop, Term, Terms, var, app, nil, cons, Step, Result, Pack, no_step, symbol_of, rule_of, node_of, step_of, sort_of}
 use Rattle.definition.specs.Tree.{Tree, Trees, tree, no_trees, tree_then, pick, trees, tree_of, turn, turns}
 use Rattle.definition.specs.Good.{Below, Sorted, SortedAll, Judgments, Arguments, Good}
-use Rattle.definition.specs.Laws.Grow.{below_more}
-use Rattle.definition.specs.Laws.Tree.{tree_node}
+use Rattle.definition.proofs.Laws.Grow.{below_more}
+use Rattle.definition.proofs.Laws.Tree.{tree_node}
 use Rattle.definition.specs.Verdict.{judgments, Accepted}
 use Rattle.definition.specs.Keys.{first_of, predicate_of, is_a_cut, needs, needed, keyed}
 use Rattle.theory.specs.Derive.{SortedTree, SortedTrees, Judgment, Fits, FitsAll, Derivation, leaf, by, Derivations, none, more, StepOf, Shape, Shapes}

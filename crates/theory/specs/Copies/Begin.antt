@@ -6,7 +6,7 @@ use Rattle.definition.specs.Test.{is, see}
 use Rattle.definition.specs.Pack.{Pack, symbol_of}
 use Rattle.definition.specs.Tree.{Tree, tree, tree_then}
 use Rattle.definition.specs.Good.{Below}
-use Rattle.definition.specs.Laws.Grow.{below_more}
+use Rattle.definition.proofs.Laws.Grow.{below_more}
 use Rattle.definition.specs.Graph.{Vertex, Graph, vertex, follow, root, is_var}
 use Rattle.theory.specs.Unification.Solve.{trees_at, Solves, sort_at, SortsAt, Formed-at, Formed, Begins}
 use Rattle.theory.specs.Unification.Roots.{follow-none, follow_some, follow-more}

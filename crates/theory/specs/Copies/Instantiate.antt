@@ -5,7 +5,7 @@ use Rattle.definition.specs.Pack.{Term, Terms, var, app, nil, cons, Pack, symbol
 use Rattle.definition.specs.Tree.{Tree, tree, tree_then, turn, turns}
 use Rattle.definition.specs.Store.{variable_head}
 use Rattle.definition.specs.Good.{Below, Sorted, SortedAll}
-use Rattle.definition.specs.Laws.Grow.{below_more, below_at}
+use Rattle.definition.proofs.Laws.Grow.{below_more, below_at}
 use Rattle.definition.specs.Graph.{Vertex, Graph, Grown, applied, push, is_var}
 use Rattle.definition.specs.Analysis.{GrownAll, instantiate, instantiate_all}
 use Rattle.theory.specs.Unification.Solve.{trees_at, Solves, sort_at, SortsAt, Formed, Begins}

@@ -6,7 +6,7 @@ use Rattle.definition.specs.Test.{is, see, never, tests, any}
 use Rattle.definition.specs.Pack.{Node, no_node}
 use Rattle.definition.specs.Store.{is_variable, below}
 use Rattle.definition.specs.Good.{Below}
-use Rattle.definition.specs.Laws.Grow.{below_more}
+use Rattle.definition.proofs.Laws.Grow.{below_more}
 use Rattle.definition.specs.Analysis.{parts_from, parts}
 use Rattle.theory.specs.Derive.{In, at}
 use Rattle.theory.specs.Walks.Walk.{Under, below-under, Known, visit, walk}

@@ -8,7 +8,7 @@ use Rattle.definition.specs.Test.{is, see, never, tests}
 use Rattle.definition.specs.Pack.{Pack, symbol_of}
 use Rattle.definition.specs.Tree.{Tree, tree}
 use Rattle.definition.specs.Good.{Below}
-use Rattle.definition.specs.Laws.Grow.{below_more, length_more}
+use Rattle.definition.proofs.Laws.Grow.{below_more, length_more}
 use Rattle.definition.specs.Graph.{Vertex, Graph, variable_vertex, applied, vertex, push, root, is_var}
 use Rattle.theory.specs.Unification.Solve.{trees_at, Solves, sort_at, SortsAt, Formed-at, Formed, Begins}
 use Rattle.theory.specs.Copies.Begin.{trees_at-same, sort_at-variable, sort_at-applied, SortsAt-begins, formed_begins}

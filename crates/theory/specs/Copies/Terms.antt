@@ -7,7 +7,7 @@ use Rattle.definition.specs.Test.{is, see}
 use Rattle.definition.specs.Pack.{Term, Terms, var, app, nil, cons, Node, no_node}
 use Rattle.definition.specs.Store.{is_variable, below, pick_terms, term_over, grow_terms, term_of}
 use Rattle.definition.specs.Good.{Below}
-use Rattle.definition.specs.Laws.Grow.{below_more, length_more}
+use Rattle.definition.proofs.Laws.Grow.{below_more, length_more}
 
 -- each node rests on earlier ones
 abbrev pub Earlier : List Node → Type 0

@@ -8,7 +8,7 @@ use Rattle.definition.specs.Test.{is, see, never, tests}
 use Rattle.definition.specs.Pack.{Pack}
 use Rattle.definition.specs.Tree.{Tree}
 use Rattle.definition.specs.Good.{Below}
-use Rattle.definition.specs.Laws.Grow.{below_more}
+use Rattle.definition.proofs.Laws.Grow.{below_more}
 use Rattle.definition.specs.Store.{variable_head}
 use Rattle.definition.specs.Graph.{Vertex, Graph, variable_vertex, vertex, is_var, up_to}
 use Rattle.theory.specs.Unification.Solve.{Solves, sort_at, Formed}

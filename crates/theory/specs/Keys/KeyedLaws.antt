@@ -12,7 +12,7 @@ use Rattle.std.proofs.lemmas.List.{get_or_at}
 use Rattle.definition.specs.Test.{is, see, never, tests, any}
 use Rattle.definition.specs.Pack.{Pack, step_of}
 use Rattle.definition.specs.Good.{Good}
-use Rattle.definition.specs.Laws.Grow.{below_more, length_more}
+use Rattle.definition.proofs.Laws.Grow.{below_more, length_more}
 use Rattle.definition.specs.Store.{nothing}
 use Rattle.definition.specs.Graph.{up_to}
 use Rattle.definition.specs.Classes.{count_of}

@@ -10,7 +10,7 @@ use Rattle.std.proofs.Math.ListN.{length}
 use Rattle.definition.specs.Test.{is, see, never, all, ◌and◌, and_parts}
 use Rattle.definition.specs.Pack.{Pack, Term, Terms, var, app, nil, cons, symbol_of}
 use Rattle.definition.specs.Good.{Below, Sorted, SortedAll}
-use Rattle.definition.specs.Laws.Grow.{below_more, below_at, length_more}
+use Rattle.definition.proofs.Laws.Grow.{below_more, below_at, length_more}
 use Rattle.definition.specs.Graph.{Vertex, Graph, Grown, applied, vertex, push, root, is_var, ends, circular}
 use Rattle.definition.specs.Analysis.{GrownAll, instantiate, instantiate_all}
 use Rattle.theory.specs.Unification.Solve.{Begins}

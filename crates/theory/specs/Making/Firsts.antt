@@ -6,7 +6,7 @@ use Rattle.definition.specs.Test.{is, see, never}
 use Rattle.definition.specs.Pack.{Pack, rule_of, step_of}
 use Rattle.definition.specs.Certificate.{count}
 use Rattle.definition.specs.Good.{Below, Good}
-use Rattle.definition.specs.Laws.Grow.{below_more}
+use Rattle.definition.proofs.Laws.Grow.{below_more}
 use Rattle.definition.specs.Store.{nothing}
 use Rattle.definition.specs.Keys.{cut_key, rule_key, no_keyed, first_of, predicate_of, is_a_cut, key_of, needed, keyed}
 use Rattle.definition.specs.Classes.{Built, make_cut, make_rule, make_class}

@@ -8,7 +8,7 @@ use Rattle.std.proofs.lemmas.List.{get_or_at}
 use Rattle.definition.specs.Test.{is, see, never}
 use Rattle.definition.specs.Pack.{Node, no_node, Pack, symbol_of}
 use Rattle.definition.specs.Good.{Below, Good, Few}
-use Rattle.definition.specs.Laws.Grow.{length_more}
+use Rattle.definition.proofs.Laws.Grow.{length_more}
 use Rattle.definition.specs.Store.{variable_head, variable_node, is_variable, below, place_of, Stored, intern}
 use Rattle.definition.specs.Analysis.{StoredAll}
 use Rattle.definition.specs.Classes.{fresh_variables}

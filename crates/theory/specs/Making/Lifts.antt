@@ -7,7 +7,7 @@ use Rattle.std.proofs.Math.Decide.{dec_lt}
 use Rattle.definition.specs.Pack.{Node, Pack, symbol_of, node_of}
 use Rattle.definition.specs.Tree.{Tree, Trees, tree, no_trees, tree_then, no_tree, pick, trees, tree_of}
 use Rattle.definition.specs.Good.{Below, Good, Few}
-use Rattle.definition.specs.Laws.Tree.{args-below, tree_node, length-grow, arguments_many}
+use Rattle.definition.proofs.Laws.Tree.{args-below, tree_node, length-grow, arguments_many}
 use Rattle.definition.specs.Store.{variable_head, intern}
 use Rattle.definition.specs.Analysis.{lift, lift_all}
 use Rattle.theory.specs.Patterns.Interned.{grows_none, grows_then, grows_long}

@@ -9,12 +9,12 @@ use Prim.Native.Nat.{ℕ, zero, suc, ◌<◌}
 use Rattle.definition.specs.Test.{is, see, never}
 use Rattle.definition.specs.Pack.{Pack, node_of}
 use Rattle.definition.specs.Good.{Below, Good}
-use Rattle.definition.specs.Laws.Grow.{below_more}
-use Rattle.definition.specs.Laws.Tree.{args-below}
+use Rattle.definition.proofs.Laws.Grow.{below_more}
+use Rattle.definition.proofs.Laws.Tree.{args-below}
 use Rattle.definition.specs.Verdict.{Bound, value_of, provided, onwards}
 use Rattle.definition.specs.Graph.{Graph, vertex, root, is_var}
 use Rattle.definition.specs.Analysis.{pairing, value_at, valued}
-use Rattle.definition.specs.Laws.Agreement.{onwards-same, onwards_some}
+use Rattle.definition.proofs.Laws.Agreement.{onwards-same, onwards_some}
 
 -- ---- values and then more values
 -- going on with nothing changes nothing

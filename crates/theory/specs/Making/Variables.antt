@@ -14,7 +14,7 @@ use Rattle.definition.specs.Pack.{Node, no_node, Pack, symbol_of}
 use Rattle.definition.specs.Tree.{Tree, Trees, tree, no_trees, tree_then, tree_of}
 use Rattle.definition.specs.Good.{Good, Few}
 use Rattle.definition.specs.Verdict.{Bound}
-use Rattle.definition.specs.Laws.Grow.{length_more}
+use Rattle.definition.proofs.Laws.Grow.{length_more}
 use Rattle.definition.specs.Store.{variable_node, is_variable, place_of, intern}
 use Rattle.definition.specs.Graph.{Graph, vertex, root, is_var}
 use Rattle.definition.specs.Analysis.{copied, lift, lift_all, Numbered, Resolved, number_of, resolve_variable, resolve_at, resolve}

@@ -14,7 +14,7 @@ use Rattle.definition.specs.Good.{Below}
 use Rattle.definition.specs.Store.{variable_node, is_variable, below, intern}
 use Rattle.definition.specs.Graph.{Graph, vertex, root, is_var}
 use Rattle.definition.specs.Analysis.{copied, Numbered, Resolved, number_of, resolve_variable, resolve_at, resolve}
-use Rattle.definition.specs.Laws.Store.{StoreOnce}
+use Rattle.definition.proofs.Laws.Store.{StoreOnce}
 use Rattle.theory.specs.Copies.Terms.{Earlier}
 use Rattle.theory.specs.Patterns.Interned.{Grows, grows_none, grows_then, grows_long, interned, lifted, below-args}
 

@@ -4,7 +4,7 @@ use Rattle.std.proofs.Common.{ap, ap₂, ◌∙◌, arith, ne_eqb}
 use Rattle.definition.specs.Pack.{Terms, Node, no_node, Pack, node_of}
 use Rattle.definition.specs.Tree.{Tree, Trees, tree, no_trees, tree_then, pick, trees, tree_of, turn, turns}
 use Rattle.definition.specs.Good.{Below, Good, Few}
-use Rattle.definition.specs.Laws.Tree.{args-below, tree_node}
+use Rattle.definition.proofs.Laws.Tree.{args-below, tree_node}
 use Rattle.definition.specs.Store.{variable_head, is_variable, term_of, intern}
 use Rattle.definition.specs.Analysis.{lift, lift_all}
 use Rattle.theory.specs.Copies.Terms.{Earlier, terms_at, term_applied}

@@ -7,7 +7,7 @@ use Rattle.std.proofs.lemmas.List.{get_or_at}
 use Rattle.definition.specs.Test.{is, see, tests}
 use Rattle.definition.specs.Pack.{Node, no_node}
 use Rattle.definition.specs.Good.{Below}
-use Rattle.definition.specs.Laws.Store.{place_found, place_none, StoreOnce}
+use Rattle.definition.proofs.Laws.Store.{place_found, place_none, StoreOnce}
 use Rattle.definition.specs.Store.{is_variable, below, place_of, Stored, intern}
 use Rattle.definition.specs.Tree.{Tree, Trees, tree, no_trees, tree_then}
 use Rattle.definition.specs.Analysis.{StoredAll, lift, lift_all}

@@ -12,12 +12,12 @@ use Rattle.definition.specs.Test.{◌and◌, is, see, any, all, and_parts}
 use Rattle.definition.specs.Pack.{Node, no_node, Pack}
 use Rattle.definition.specs.Tree.{Tree, turn}
 use Rattle.definition.specs.Verdict.{Bound}
-use Rattle.definition.specs.Laws.Matches.{then_parts}
-use Rattle.definition.specs.Laws.Agreement.{any_some, some_any}
+use Rattle.definition.proofs.Laws.Matches.{then_parts}
+use Rattle.definition.proofs.Laws.Agreement.{any_some, some_any}
 use Rattle.definition.specs.Store.{is_variable, term_of}
 use Rattle.definition.specs.Graph.{Graph, vertex, is_var, ends}
 use Rattle.definition.specs.Analysis.{parts, Numbered, Resolved, number_of, resolve}
-use Rattle.definition.specs.Laws.Store.{StoreOnce}
+use Rattle.definition.proofs.Laws.Store.{StoreOnce}
 use Rattle.theory.specs.Derive.{SortedTree, In, at, InstanceOf}
 use Rattle.theory.specs.Unification.Solve.{trees_at, Solves, sort_at, Formed}
 use Rattle.theory.specs.Copies.Begin.{sort_at-variable}

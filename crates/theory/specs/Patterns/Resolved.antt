@@ -16,7 +16,7 @@ use Rattle.definition.specs.Good.{Below}
 use Rattle.definition.specs.Store.{variable_head, variable_node, is_variable, below, term_of, intern}
 use Rattle.definition.specs.Graph.{Graph, vertex, root, is_var, ends}
 use Rattle.definition.specs.Analysis.{copied, Numbered, ResolvedOne, Resolved, number_of, resolve_variable, resolve_at, resolve}
-use Rattle.definition.specs.Laws.Store.{StoreOnce}
+use Rattle.definition.proofs.Laws.Store.{StoreOnce}
 use Rattle.theory.specs.Unification.Solve.{trees_at, Solves, Formed}
 use Rattle.theory.specs.Unification.Acyclic.{solves_root}
 use Rattle.theory.specs.Patterns.Valued.{deep_ends}

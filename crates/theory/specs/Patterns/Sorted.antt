@@ -6,7 +6,7 @@ use Rattle.definition.specs.Test.{never}
 use Rattle.definition.specs.Pack.{Node, no_node, Pack, symbol_of}
 use Rattle.definition.specs.Store.{variable_node, is_variable, below}
 use Rattle.definition.specs.Analysis.{parts}
-use Rattle.definition.specs.Laws.Store.{StoreOnce}
+use Rattle.definition.proofs.Laws.Store.{StoreOnce}
 use Rattle.theory.specs.Derive.{In}
 use Rattle.theory.specs.Copies.Terms.{Earlier, below-variable, below-applied}
 use Rattle.theory.specs.Copies.Parts.{here, there, in_front, in_none, in_here, in_there, Inherited, parts_inherit, parts_self, parts_closed}

@@ -11,9 +11,9 @@ use Rattle.definition.specs.Test.{is, see, never, all, and_parts}
 use Rattle.definition.specs.Pack.{Pack, node_of}
 use Rattle.definition.specs.Tree.{Tree, pick, trees, tree_of}
 use Rattle.definition.specs.Good.{Below, Good, Once}
-use Rattle.definition.specs.Laws.Grow.{below_more}
-use Rattle.definition.specs.Laws.Tree.{args-below, tree_node, tree_once}
-use Rattle.definition.specs.Laws.Matches.{tree_parts, then_parts}
+use Rattle.definition.proofs.Laws.Grow.{below_more}
+use Rattle.definition.proofs.Laws.Tree.{args-below, tree_node, tree_once}
+use Rattle.definition.proofs.Laws.Matches.{tree_parts, then_parts}
 use Rattle.definition.specs.Verdict.{Bound, value_of, provided, onwards}
 use Rattle.definition.specs.Graph.{Graph, vertex, root, is_var, ends}
 use Rattle.definition.specs.Analysis.{pairing, value_at, valued}

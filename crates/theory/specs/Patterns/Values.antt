@@ -11,7 +11,7 @@ use Rattle.definition.specs.Pack.{Pack, node_of}
 use Rattle.definition.specs.Tree.{Tree, turns}
 use Rattle.definition.specs.Verdict.{Bound, value_of, provided}
 use Rattle.definition.specs.Good.{Below, Good, Few}
-use Rattle.definition.specs.Laws.Agreement.{onwards_some}
+use Rattle.definition.proofs.Laws.Agreement.{onwards_some}
 use Rattle.definition.specs.Graph.{Graph, vertex, root, is_var, ends}
 use Rattle.definition.specs.Analysis.{pairing, value_at, valued, Numbered, resolve}
 use Rattle.theory.specs.Unification.Solve.{trees_at, Solves, Formed}

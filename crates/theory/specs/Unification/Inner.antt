@@ -4,7 +4,7 @@ use Rattle.std.proofs.Common.{◌∙◌, arith, length-append}
 use Rattle.std.proofs.Math.Option.{none}
 use Rattle.std.proofs.Math.Decide.{dec_lt}
 use Rattle.definition.specs.Good.{Below}
-use Rattle.definition.specs.Laws.Grow.{below_more}
+use Rattle.definition.proofs.Laws.Grow.{below_more}
 use Rattle.definition.specs.Graph.{Vertex, Graph, vertex}
 use Rattle.theory.specs.Unification.Solve.{SameNodes}
 use Rattle.theory.specs.Unification.Like.{vertex-old, vertex-new}

@@ -5,7 +5,7 @@ use Rattle.std.proofs.Math.Option.{none, some}
 use Rattle.definition.specs.Test.{is, see, never}
 use Rattle.definition.specs.Pack.{Node}
 use Rattle.definition.specs.Certificate.{same_node}
-use Rattle.definition.specs.Laws.Store.{node-same}
+use Rattle.definition.proofs.Laws.Store.{node-same}
 use Rattle.definition.specs.Store.{place_of, Stored, intern}
 use Rattle.definition.specs.Tree.{Tree, Trees, tree, no_trees, tree_then}
 use Rattle.definition.specs.Analysis.{StoredAll, lift, lift_all}

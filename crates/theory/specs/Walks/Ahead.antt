@@ -12,7 +12,7 @@ use Rattle.definition.specs.Verdict.{Bound, value_of, provided, onwards}
 use Rattle.definition.specs.Good.{Below}
 use Rattle.definition.specs.Graph.{Graph, vertex, root, is_var, Pair}
 use Rattle.definition.specs.Analysis.{pairing, value_at, valued}
-use Rattle.definition.specs.Laws.Agreement.{onwards-same}
+use Rattle.definition.proofs.Laws.Agreement.{onwards-same}
 use Rattle.theory.specs.Walks.Walk.{Under}
 use Rattle.theory.specs.Walks.Levels.{arg_roots, args-under}
 

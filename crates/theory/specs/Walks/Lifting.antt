@@ -13,8 +13,8 @@ use Rattle.definition.specs.Tree.{Tree, Trees, no_trees, tree_then, pick, trees,
 use Rattle.definition.specs.Verdict.{Bound, value_of}
 use Rattle.definition.specs.Store.{Stored, intern}
 use Rattle.definition.specs.Analysis.{StoredAll, copied, pairing, lift, lift_all}
-use Rattle.definition.specs.Laws.Grow.{below_more}
-use Rattle.definition.specs.Laws.Tree.{args-below, tree_node}
+use Rattle.definition.proofs.Laws.Grow.{below_more}
+use Rattle.definition.proofs.Laws.Tree.{args-below, tree_node}
 use Rattle.theory.specs.Patterns.Interned.{interned}
 use Rattle.theory.specs.Walks.Walk.{Under, below-under, Known, walk, walk-induct}
 use Rattle.theory.specs.Walks.Machine.{Frame, turn, Stacked}

@@ -13,9 +13,9 @@ use Rattle.definition.specs.Verdict.{Bound, value_of}
 use Rattle.definition.specs.Good.{Below, Good, Once}
 use Rattle.definition.specs.Graph.{Pair}
 use Rattle.definition.specs.Analysis.{pairing}
-use Rattle.definition.specs.Laws.Tree.{args-below, tree_node, tree_once}
-use Rattle.definition.specs.Laws.Grow.{below_more}
-use Rattle.definition.specs.Laws.Matches.{Agrees, tree_parts}
+use Rattle.definition.proofs.Laws.Tree.{args-below, tree_node, tree_once}
+use Rattle.definition.proofs.Laws.Grow.{below_more}
+use Rattle.definition.proofs.Laws.Matches.{Agrees, tree_parts}
 use Rattle.theory.specs.Copies.Terms.{Earlier, terms_at, below-applied, term_variable, term_applied}
 use Rattle.theory.specs.Walks.WalkOnce.{unfinished_less}
 use Rattle.theory.specs.Walks.Memo.{has, has_new, has-others, none_has}

@@ -11,8 +11,8 @@ use Rattle.definition.specs.Store.{below, term_of}
 use Rattle.definition.specs.Verdict.{Bound, value_of, matches}
 use Rattle.definition.specs.Good.{Good, Once}
 use Rattle.definition.specs.Graph.{Pair}
-use Rattle.definition.specs.Laws.Tree.{tree_once}
-use Rattle.definition.specs.Laws.Matches.{Agrees, Given, sound, Found, complete}
+use Rattle.definition.proofs.Laws.Tree.{tree_once}
+use Rattle.definition.proofs.Laws.Matches.{Agrees, Given, sound, Found, complete}
 use Rattle.theory.specs.Copies.Terms.{Earlier}
 use Rattle.theory.specs.Walks.Ahead.{beside}
 use Rattle.theory.specs.Walks.Valuing.{total, left-most}

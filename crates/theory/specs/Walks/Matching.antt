@@ -13,7 +13,7 @@ use Rattle.definition.specs.Verdict.{Bound, value_of}
 use Rattle.definition.specs.Good.{Below}
 use Rattle.definition.specs.Graph.{Pair}
 use Rattle.definition.specs.Analysis.{pairing}
-use Rattle.definition.specs.Laws.Matches.{Agrees, Given, then_parts}
+use Rattle.definition.proofs.Laws.Matches.{Agrees, Given, then_parts}
 use Rattle.theory.specs.Copies.Terms.{terms_at}
 use Rattle.theory.specs.Copies.Copying.{value_of_new, value_of_old, value_apart}
 use Rattle.theory.specs.Walks.WalkOnce.{unfinished}

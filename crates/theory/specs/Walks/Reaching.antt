@@ -12,7 +12,7 @@ use Rattle.definition.specs.Test.{is, see, never, or_left, or_right, or-other, a
 use Rattle.definition.specs.Pack.{Node}
 use Rattle.definition.specs.Store.{term_of}
 use Rattle.definition.specs.Open.{at}
-use Rattle.definition.specs.Laws.Grow.{below_at}
+use Rattle.definition.proofs.Laws.Grow.{below_at}
 use Rattle.theory.specs.Copies.Terms.{Earlier}
 use Rattle.theory.specs.Walks.Stands.{kids, hits, Stands, stands_here, stands_below, stands_deeper}
 

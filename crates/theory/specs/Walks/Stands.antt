@@ -12,7 +12,7 @@ use Rattle.definition.specs.Test.{is, see, never, ◌and◌, or_left, or_right, 
 use Rattle.definition.specs.Pack.{var, app, nil, cons, Node, no_node}
 use Rattle.definition.specs.Store.{is_variable, below, term_of}
 use Rattle.definition.specs.Open.{argument_is, at, at_any}
-use Rattle.definition.specs.Laws.Grow.{below_at}
+use Rattle.definition.proofs.Laws.Grow.{below_at}
 use Rattle.theory.specs.Copies.Terms.{Earlier, terms_at, term_variable, term_applied, below-variable, below-applied}
 use Rattle.theory.specs.Walks.Matching.{number_of}
 

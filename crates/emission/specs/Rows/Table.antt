@@ -1,8 +1,0 @@
--- The small packs whole: the definition's table and emission's, under one theorem.
-use Rattle.definition.specs.Rows.Row.{Holds as HoldsThere}
-use Rattle.definition.specs.Rows.Table.{joined, parts, small_packs as there}
-use Rattle.emission.specs.Rows.Row.{Holds}
-use Rattle.emission.specs.Rows.Emit.{rows, hold}
-
-pub small_packs : HoldsThere (joined parts).rows × Holds rows
-small_packs = (there, hold)

@@ -1,0 +1,12 @@
+-- `meet_arguments` meets its contract: with each turn one argument more is met.
+use borrow.Author.Rules.{rules}
+use native.Mathlib.Omega.{arith}
+use Prim.Native.Nat.{◌≤◌, ◌-◌}
+use Rattle.emit_open.specs.Meets.{Meeting, meeting_none, meeting_given, meeting_meetable, meeting_more, meeting_all}
+use Rattle.emit_open.proofs.open.meet_arguments.Given as goal
+
+abbrev pub invariant-loop-j : goal.invariant-loop-j
+invariant-loop-j l = (l.j ≤ l.k) × Meeting l.initial.work l.work l.words l.l l.st l.met l.initial.on l.q.0 l.on l.j
+
+abbrev pub decreases-loop-j : goal.decreases-loop-j
+decreases-loop-j l = l.k - l.j

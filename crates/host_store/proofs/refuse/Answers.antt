@@ -1,0 +1,9 @@
+-- `refuse` meets its contract.
+use borrow.Author.Rules.{rules}
+use Rattle.host_store.specs.Turns.{cleared}
+use Rattle.host_store.proofs.refuse.Goals as goal
+
+pub returns : goal.returns
+returns c =
+    let a = c.args in
+    cleared a.code a.index.now a.words.now a.numbers.now _ _ _ c.zero_words.ensures c.zero_words-2.ensures c.zero_words-3.ensures

@@ -1,0 +1,56 @@
+-- `read_nodes` meets its contract.
+use borrow.Author.Rules.{rules}
+use mathlib.Core.Path.{◌≡◌, refl, ◌∙◌}
+use Prim.Native.Nat.{◌-◌}
+use native.Mathlib.Omega.{arith}
+use lib.ListN.{length}
+use Rattle.host_unify.specs.Turns.{Reading, begun, ended_there}
+use Rattle.host_unify.proofs.read_nodes.Goals as goal
+
+pub new-g-requires : goal.new-g-requires
+new-g-requires c = let p = c.requires in (omega (arith, p.0), p.1)
+
+pub loop-at-init : goal.loop-at-init
+loop-at-init c = let a = c.args in (refl, refl, begun _ _ _ _ c.new-g.ensures.0)
+
+pub read_node-requires : goal.read_node-requires
+read_node-requires c = let g = c.loop-at in (g.invariant.2, omega arith)
+
+pub loop-at-smaller : goal.loop-at-smaller
+loop-at-smaller c =
+    let T = c.in-Next.ensures in
+    omega (arith, T.1, T.0.within)
+
+pub loop-at-preserved : goal.loop-at-preserved
+loop-at-preserved c =
+    let g = c.loop-at in
+    let k = c.read_node.auto in
+    let T = c.in-Next.ensures in
+    (k.cells ∙ g.invariant.0, k.work ∙ g.invariant.1, T.0)
+
+pub shape_of-cells-in-Broken : goal.shape_of-cells-in-Broken
+shape_of-cells-in-Broken c = search
+
+pub shape_of-work-in-Broken : goal.shape_of-work-in-Broken
+shape_of-work-in-Broken c = search
+
+pub returns-in-Broken : goal.returns-in-Broken
+returns-in-Broken c = c.in-Broken.ensures
+
+pub shape_of-cells-in-Full : goal.shape_of-cells-in-Full
+shape_of-cells-in-Full c = search
+
+pub shape_of-work-in-Full : goal.shape_of-work-in-Full
+shape_of-work-in-Full c = search
+
+pub returns-in-Full : goal.returns-in-Full
+returns-in-Full c = c.in-Full.ensures
+
+pub shape_of-cells : goal.shape_of-cells
+shape_of-cells c = search
+
+pub shape_of-work : goal.shape_of-work
+shape_of-work c = search
+
+pub returns : goal.returns
+returns c = let g = c.loop-at in ended_there _ _ _ _ _ g.invariant.2 (omega arith)

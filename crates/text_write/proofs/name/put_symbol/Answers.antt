@@ -1,0 +1,20 @@
+-- `put_symbol` meets its contract.
+use borrow.Author.Rules.{rules}
+use mathlib.Core.Path.{sym, ap}
+use native.Mathlib.Omega.{arith}
+use Rattle.definition.specs.Pack.{Symbol}
+use Rattle.text_write.specs.Written.{adds_none, adds_as}
+use Rattle.text_write.specs.Source.{no_symbol}
+use Rattle.text_write.proofs.name.put_symbol.Goals as goal
+
+pub count-requires : goal.count-requires
+count-requires c = (c.requires.cataloged.fits, omega arith)
+
+pub returns-then-count-i : goal.returns-then-count-i
+returns-then-count-i c = λ P R. adds_as _ _ _ _ _ _ (sym (ap (λ (x : Symbol). x.name) (no_symbol _ _ _ P R _ (omega (arith, c.if-count-i.true, c.count.ensures))))) (adds_none _ _)
+
+pub symbol_name-requires : goal.symbol_name-requires
+symbol_name-requires c = (c.requires, omega (arith, c.if-count-i.false, c.count.ensures))
+
+pub returns : goal.returns
+returns c = λ P R. adds_as _ _ _ _ _ _ (c.symbol_name.ensures P R) c.put_bytes.ensures
