@@ -1,5 +1,5 @@
 -- What `cert_emit` answers, for every pack and all lengths: returned numbers and every cell lent; and what certgen writes.
-use Rattle.std.specs.Prelude.{true, false, List, [], ◌∷◌, ◌++◌, ℕ, ltb, length}
+use Rattle.std.specs.Prelude.{true, false, List, [], ◌++◌, ℕ, ltb, length}
 use Rattle.std.proofs.Math.Option.{none, some}
 use Rattle.definition.specs.Decimal.{decimal}
 use Rattle.definition.specs.Store.{pattern_words}

@@ -1,6 +1,6 @@
 -- From `prove` and `chain`: a judgment is looked up, or proved by the first rule of its predicate all of whose premises are proved one
 -- level deeper.
-use Rattle.std.specs.Prelude.{List, [], ◌∷◌, ℕ, zero, suc, get_or}
+use Rattle.std.specs.Prelude.{List, [], ◌∷◌, ℕ, zero, suc}
 use Rattle.std.proofs.Math.Option.{Option, none, some}
 use Rattle.definition.specs.Pack.{rule_of}
 use Rattle.definition.specs.Verdict.{Bound, value_of, matches}

@@ -1,5 +1,5 @@
 -- Single writes keep a state sound: a line, a node, an entry of a map that tells the truth.
-use Rattle.std.specs.Prelude.{◌≡◌, refl, ℕ, ◌+◌, eqb}
+use Rattle.std.specs.Prelude.{◌≡◌, refl, ℕ, eqb}
 use Rattle.std.proofs.Common.{sym, ◌∙◌, arith}
 use Rattle.std.proofs.Math.Path.{ap}
 use Rattle.std.proofs.Math.Bool.{true, false}
@@ -15,7 +15,7 @@ use Rattle.definition.specs.Analysis.{pairing}
 use Rattle.definition.specs.Run.{behind, ◌>>=◌ as ◌>>=r◌}
 use Rattle.emission.specs.Line.{Line}
 use Rattle.emission.specs.Render.{proof_text}
-use Rattle.emission.specs.State.{Emitter, Setting, ◌>>=◌, having_lines, having_proved, having_derived, having_def, having_name, having_store, having_pairs, restored, grown_to, write}
+use Rattle.emission.specs.State.{Emitter, Setting, having_lines, having_proved, having_derived, having_def, having_name, having_store, having_pairs, restored, grown_to, write}
 use Rattle.theory.specs.Copies.Copying.{looked, newest, older, value_of_new, value_of_old}
 use Rattle.theory.specs.Patterns.Interned.{Grows, with, grows_none, grows_long, grows_at}
 use Rattle.emit_theory.specs.Stores.{SortedStore}

@@ -1,4 +1,4 @@
-// What is left of a pack to be read. The borrow checker covers no function over a struct that holds a slice, so each is proved by hand.
+// What is left of a pack to be read.
 ghost use Rattle.std.specs.Prelude.{◌≡◌, ◌≤◌, length, drop};
 ghost use Rattle.pack_tables.specs.Header.{HeadsFirst};
 

@@ -3,7 +3,7 @@ use Rattle.std.specs.Prelude.{refl, List, [], ◌∷◌, ◌++◌, replicate}
 use Rattle.definition.specs.Pack.{no_such_symbol, no_rule}
 use Rattle.definition.specs.Encode.{put, put_record_of}
 use Rattle.definition.specs.Rows.Say.{sort, symbol, rule, nested, times}
-use Rattle.definition.specs.Rows.Front.{sorts, symbols, rules, nodes}
+use Rattle.definition.specs.Rows.Front.{sorts, symbols}
 use Rattle.definition.specs.Rows.Row.{Row, check, reading, Claim, seen, Holds}
 
 -- arity 16 passes

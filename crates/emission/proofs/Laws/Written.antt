@@ -1,5 +1,5 @@
 -- `written` is `show` with a budget that suffices.
-use Rattle.std.specs.Prelude.{◌≡◌, refl, List, [], ℕ, suc, ◌+◌, ◌-◌, ◌≤◌}
+use Rattle.std.specs.Prelude.{◌≡◌, refl, List, ℕ, suc, ◌+◌, ◌-◌, ◌≤◌}
 use Rattle.std.proofs.Common.{ap, arith}
 use Rattle.definition.specs.Pack.{Term, Terms, var, app, nil, cons, Pack}
 use Rattle.definition.specs.Shown.{Text, show, show_all}

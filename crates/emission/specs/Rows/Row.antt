@@ -1,10 +1,10 @@
 -- A row of the table of emission's small packs, and what it claims.
-use Rattle.std.specs.Prelude.{◌≡◌, true, false, List, [], ◌∷◌, ◌++◌, ℕ, ◌+◌, ◌*◌, eqb, length, take}
+use Rattle.std.specs.Prelude.{◌≡◌, true, false, List, [], ◌∷◌, ◌++◌, ℕ, eqb, length, take}
 use Rattle.definition.specs.Test.{all}
 use Rattle.definition.specs.Frame.{right, within, ◌>>=◌ as ◌>>=f◌}
 use Rattle.definition.specs.Run.{◌>>=◌ as ◌>>=r◌}
 use Rattle.definition.specs.Parse.{kinds, take_record}
-use Rattle.definition.specs.Answer.{Lent, least_work}
+use Rattle.definition.specs.Answer.{least_work}
 use Rattle.definition.specs.Calls.{no_figures}
 use Rattle.definition.specs.Ascii.{bytes}
 use Rattle.definition.specs.Rows.Say.{sort, symbol, rule, node, step, goal, result, cut}

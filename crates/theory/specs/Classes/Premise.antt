@@ -2,7 +2,6 @@
 use Rattle.std.specs.Prelude.{◌≡◌, refl, Bool, List, [], ◌∷◌, ℕ, ◌<◌, ◌≤◌, length, get_or}
 use Rattle.std.proofs.Common.{sym, ap, ap₂, ◌∙◌, subst, arith}
 use Rattle.std.proofs.Math.Option.{Option, none, some}
-use Rattle.definition.specs.Test.{is}
 use Rattle.definition.specs.Pack.{prop, Term, Terms, var, app, nil, cons, Node, Pack, symbol_of}
 use Rattle.definition.specs.Tree.{Tree, tree, tree_then, turn, turns}
 use Rattle.definition.proofs.Laws.Grow.{below_at}

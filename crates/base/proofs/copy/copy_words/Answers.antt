@@ -1,9 +1,7 @@
 -- `copy_words` meets its contract: with each turn one cell more is the same.
-use borrow.Author.Rules.{rules}
-use mathlib.Core.Path.{◌≡◌, refl, sym, ◌∙◌}
-use Prim.Native.Nat.{◌≤◌, ◌-◌}
+use mathlib.Core.Path.{refl, sym, ◌∙◌}
 use native.Mathlib.Omega.{arith}
-use lib.ListN.{length, take, length-set}
+use lib.ListN.{length-set}
 use lib.Seq.{take_all}
 use Rattle.base.specs.Part.{take-copied}
 use Rattle.base.proofs.copy.copy_words.Goals as goal

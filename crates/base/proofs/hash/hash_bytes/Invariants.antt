@@ -1,10 +1,8 @@
 -- `hash_bytes` meets its contract: with each turn the hash of what is left gives the same whole.
-use borrow.Author.Rules.{rules}
-use mathlib.Core.Path.{◌≡◌, sym, ap, ◌∙◌, subst}
-use Prim.Native.Nat.{ℕ, ◌*◌, ◌/◌, ◌≤◌, ◌<◌, ◌-◌}
-use native.Mathlib.Omega.{arith}
+use mathlib.Core.Path.{◌≡◌}
+use Prim.Native.Nat.{◌≤◌, ◌<◌, ◌-◌}
 use lib.ListN.{length, drop}
-use Rattle.base.specs.Hash.{hash_from, hash_of, hash_lt, hash_turn, hash_end, words_fit}
+use Rattle.base.specs.Hash.{hash_from}
 use Rattle.base.proofs.hash.hash_bytes.Given as goal
 
 abbrev pub invariant-loop-j : goal.invariant-loop-j

@@ -1,10 +1,9 @@
 -- `hash_words` meets its contract: with each turn the hash of what is left gives the same whole.
 use borrow.Author.Rules.{rules}
-use mathlib.Core.Path.{◌≡◌, sym, ap, ◌∙◌, subst}
-use Prim.Native.Nat.{ℕ, ◌*◌, ◌/◌, ◌≤◌, ◌<◌, ◌-◌}
+use mathlib.Core.Path.{sym, ap, ◌∙◌, subst}
+use Prim.Native.Nat.{ℕ, ◌*◌, ◌/◌, ◌<◌}
 use native.Mathlib.Omega.{arith}
-use lib.ListN.{length, drop}
-use Rattle.base.specs.Hash.{hash_from, hash_of, hash_lt, hash_turn, hash_end, words_fit}
+use Rattle.base.specs.Hash.{hash_of, hash_lt, hash_turn, hash_end, words_fit}
 use Rattle.base.proofs.hash.hash_words.Goals as goal
 
 pub overflow_cast-h : goal.overflow_cast-h

@@ -1,10 +1,7 @@
 -- `same_words` meets its contract: with each turn what is left to compare gives the same answer.
-use borrow.Author.Rules.{rules}
-use mathlib.Core.Path.{◌≡◌, refl, sym, ap, ◌∙◌}
-use Prim.Native.Nat.{◌-◌}
+use mathlib.Core.Path.{refl, sym, ap, ◌∙◌}
 use native.Mathlib.Omega.{arith}
-use lib.ListN.{length, drop}
-use Rattle.definition.specs.Test.{same}
+use lib.ListN.{length}
 use Rattle.base.specs.Same.{same_not, same_turn, same_stop, same_end}
 use Rattle.base.proofs.same.same_words.Goals as goal
 

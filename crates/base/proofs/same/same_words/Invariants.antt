@@ -1,11 +1,8 @@
 -- `same_words` meets its contract: with each turn what is left to compare gives the same answer.
-use borrow.Author.Rules.{rules}
-use mathlib.Core.Path.{◌≡◌, refl, sym, ap, ◌∙◌}
+use mathlib.Core.Path.{◌≡◌}
 use Prim.Native.Nat.{◌-◌}
-use native.Mathlib.Omega.{arith}
 use lib.ListN.{length, drop}
 use Rattle.definition.specs.Test.{same}
-use Rattle.base.specs.Same.{same_not, same_turn, same_stop, same_end}
 use Rattle.base.proofs.same.same_words.Given as goal
 
 abbrev pub invariant-loop-i : goal.invariant-loop-i

@@ -1,10 +1,8 @@
 -- `digits` meets its contract: the digits counted and those left make the whole.
-use borrow.Author.Rules.{rules}
-use mathlib.Core.Path.{◌≡◌, ap}
-use Prim.Native.Nat.{◌+◌, ◌≤◌}
+use mathlib.Core.Path.{ap}
 use native.Mathlib.Omega.{arith}
 use lib.ListN.{length}
-use Rattle.definition.specs.Decimal.{decimal, decimal_few, length_more}
+use Rattle.definition.specs.Decimal.{decimal_few, length_more}
 use Rattle.buffer.proofs.decimal.digits.Goals as goal
 
 pub loop-m-preserved : goal.loop-m-preserved

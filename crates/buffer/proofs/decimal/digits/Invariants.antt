@@ -1,10 +1,8 @@
 -- `digits` meets its contract: the digits counted and those left make the whole.
-use borrow.Author.Rules.{rules}
-use mathlib.Core.Path.{◌≡◌, ap}
+use mathlib.Core.Path.{◌≡◌}
 use Prim.Native.Nat.{◌+◌, ◌≤◌}
-use native.Mathlib.Omega.{arith}
 use lib.ListN.{length}
-use Rattle.definition.specs.Decimal.{decimal, decimal_few, length_more}
+use Rattle.definition.specs.Decimal.{decimal}
 use Rattle.buffer.proofs.decimal.digits.Given as goal
 
 abbrev pub invariant-loop-m : goal.invariant-loop-m

@@ -1,11 +1,10 @@
 -- `put_decimal` meets its contract: with each turn the digits still to be written give the same text.
-use borrow.Author.Rules.{rules}
-use mathlib.Core.Path.{◌≡◌, refl, ◌∙◌}
-use Prim.Native.Nat.{◌+◌, ◌/◌, ◌<◌}
+use mathlib.Core.Path.{refl, ◌∙◌}
+use Prim.Native.Nat.{◌/◌}
 use native.Mathlib.Omega.{arith}
-use lib.ListN.{length, length-set}
+use lib.ListN.{length-set}
 use Rattle.definition.specs.Decimal.{decimal, decimal-first, length_more}
-use Rattle.buffer.specs.Text.{over, write-fits, write_short, decimal-turn, decimal-end}
+use Rattle.buffer.specs.Text.{write-fits, write_short, decimal-turn, decimal-end}
 use Rattle.buffer.proofs.decimal.put_decimal.Goals as goal
 
 pub returns-then-text-at : goal.returns-then-text-at

@@ -1,11 +1,9 @@
 -- `put_decimal` meets its contract: with each turn the digits still to be written give the same text.
-use borrow.Author.Rules.{rules}
-use mathlib.Core.Path.{◌≡◌, refl, ◌∙◌}
-use Prim.Native.Nat.{◌+◌, ◌/◌, ◌<◌}
-use native.Mathlib.Omega.{arith}
-use lib.ListN.{length, length-set}
-use Rattle.definition.specs.Decimal.{decimal, decimal-first, length_more}
-use Rattle.buffer.specs.Text.{over, write-fits, write_short, decimal-turn, decimal-end}
+use mathlib.Core.Path.{◌≡◌}
+use Prim.Native.Nat.{◌+◌, ◌<◌}
+use lib.ListN.{length}
+use Rattle.definition.specs.Decimal.{decimal}
+use Rattle.buffer.specs.Text.{over}
 use Rattle.buffer.proofs.decimal.put_decimal.Given as goal
 
 abbrev pub invariant-loop-m : goal.invariant-loop-m

@@ -1,5 +1,4 @@
 -- `u16_at` meets its contract, by the definition of `le`.
-use borrow.Author.Rules.{rules}
 use native.Mathlib.Omega.{arith}
 use Rattle.definition.specs.Little.{le}
 use Rattle.buffer.proofs.little.u16_at.Goals as goal

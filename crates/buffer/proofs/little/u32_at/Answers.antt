@@ -1,5 +1,4 @@
 -- `u32_at` meets its contract: four bytes are two and two.
-use borrow.Author.Rules.{rules}
 use native.Mathlib.Omega.{arith}
 use Rattle.definition.specs.Little.{le_split}
 use Rattle.buffer.proofs.little.u32_at.Goals as goal

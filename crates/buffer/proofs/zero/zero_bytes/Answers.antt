@@ -1,5 +1,4 @@
 -- `zero_bytes` meets its contract: zeros from 0 on.
-use borrow.Author.Rules.{rules}
 use mathlib.Core.Path.{◌∙◌}
 use Rattle.buffer.specs.Zero.{zeroed-all}
 use Rattle.buffer.proofs.zero.zero_bytes.Goals as goal

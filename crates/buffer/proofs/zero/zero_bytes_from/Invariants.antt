@@ -1,10 +1,8 @@
 -- `zero_bytes_from` meets its contract: with each turn what is still to be zeroed gives the same whole.
-use borrow.Author.Rules.{rules}
-use mathlib.Core.Path.{◌≡◌, sym, ◌∙◌}
+use mathlib.Core.Path.{◌≡◌}
 use Prim.Native.Nat.{◌-◌}
-use native.Mathlib.Omega.{arith}
 use lib.ListN.{length}
-use Rattle.buffer.specs.Zero.{zeroed, zeroed-turn, zeroed-end}
+use Rattle.buffer.specs.Zero.{zeroed}
 use Rattle.buffer.proofs.zero.zero_bytes_from.Given as goal
 
 abbrev pub invariant-loop-j : goal.invariant-loop-j

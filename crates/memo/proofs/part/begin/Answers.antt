@@ -1,5 +1,4 @@
 -- `begin` meets its contract.
-use borrow.Author.Rules.{rules}
 use Prim.Native.Nat.{◌/◌}
 use lib.ListN.{length}
 use Rattle.memo.specs.Lent.{lent, clears}

@@ -1,5 +1,4 @@
 -- `clear` meets its contract.
-use borrow.Author.Rules.{rules}
 use lib.ListN.{length}
 use Rattle.memo.specs.Recall.{recall}
 use Rattle.memo.specs.Lent.{lent, clears}

@@ -1,5 +1,4 @@
 -- `get` meets its contract.
-use borrow.Author.Rules.{rules}
 use Rattle.memo.specs.Lent.{recall_at}
 use Rattle.memo.proofs.part.get.Goals as goal
 

@@ -1,5 +1,4 @@
 -- `put` meets its contract.
-use borrow.Author.Rules.{rules}
 use Rattle.memo.specs.Lent.{puts}
 use Rattle.memo.proofs.part.put.Goals as goal
 

@@ -1,9 +1,6 @@
 -- `free_slot` meets its contract.
-use borrow.Author.Rules.{rules}
-use Prim.Native.Nat.{◌-◌}
 use native.Mathlib.Omega.{arith}
-use lib.ListN.{length}
-use Rattle.base.specs.Probe.{Ran, ran-none, ran-more}
+use Rattle.base.specs.Probe.{ran-none, ran-more}
 use Rattle.store.proofs.nodes.free_slot.Goals as goal
 
 pub loop-s-init : goal.loop-s-init

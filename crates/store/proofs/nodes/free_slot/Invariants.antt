@@ -1,9 +1,7 @@
 -- `free_slot` meets its contract.
-use borrow.Author.Rules.{rules}
 use Prim.Native.Nat.{◌-◌}
-use native.Mathlib.Omega.{arith}
 use lib.ListN.{length}
-use Rattle.base.specs.Probe.{Ran, ran-none, ran-more}
+use Rattle.base.specs.Probe.{Ran}
 use Rattle.store.proofs.nodes.free_slot.Given as goal
 
 abbrev pub invariant-loop-s : goal.invariant-loop-s

@@ -1,5 +1,4 @@
 -- `Graph::argument` meets its contract.
-use borrow.Author.Rules.{rules}
 use Prim.Native.Nat.{◌*◌}
 use native.Mathlib.Omega.{arith}
 use Rattle.graph.specs.Cells.{room}

@@ -1,5 +1,4 @@
 -- `Graph::bind` meets its contract.
-use borrow.Author.Rules.{rules}
 use Rattle.graph.specs.Joins.{bound_by}
 use Rattle.graph.proofs.graph.Graph.bind.Goals as goal
 

@@ -1,12 +1,10 @@
 -- `Graph::find` meets its contract: with each turn the walk that is left is shorter, and no root has changed.
-use borrow.Author.Rules.{rules}
 use mathlib.Core.Path.{◌≡◌, refl, sym, ◌∙◌}
 use Prim.Native.Nat.{suc, ◌+◌, ◌*◌, ◌-◌}
 use native.Mathlib.Omega.{arith}
-use lib.ListN.{length, length-set}
-use Rattle.theory.specs.Unification.Forest.{depth}
-use Rattle.graph.specs.Cells.{link_word, graph_in}
-use Rattle.graph.specs.Links.{Seeking, seeking_first, row_there, found_at, next_there, found_next, seeking_on, seeking_less}
+use lib.ListN.{length-set}
+use Rattle.graph.specs.Cells.{link_word}
+use Rattle.graph.specs.Links.{seeking_first, row_there, found_at, next_there, found_next, seeking_on, seeking_less}
 use Rattle.graph.proofs.graph.Graph.find.Goals as goal
 
 pub loop-self-init : goal.loop-self-init

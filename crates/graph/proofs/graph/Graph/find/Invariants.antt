@@ -1,12 +1,9 @@
 -- `Graph::find` meets its contract: with each turn the walk that is left is shorter, and no root has changed.
-use borrow.Author.Rules.{rules}
-use mathlib.Core.Path.{◌≡◌, refl, sym, ◌∙◌}
-use Prim.Native.Nat.{suc, ◌+◌, ◌*◌, ◌-◌}
-use native.Mathlib.Omega.{arith}
-use lib.ListN.{length, length-set}
+use mathlib.Core.Path.{◌≡◌}
+use lib.ListN.{length}
 use Rattle.theory.specs.Unification.Forest.{depth}
-use Rattle.graph.specs.Cells.{link_word, graph_in}
-use Rattle.graph.specs.Links.{Seeking, seeking_first, row_there, found_at, next_there, found_next, seeking_on, seeking_less}
+use Rattle.graph.specs.Cells.{graph_in}
+use Rattle.graph.specs.Links.{Seeking}
 use Rattle.graph.proofs.graph.Graph.find.Given as goal
 
 abbrev pub invariant-loop-self : goal.invariant-loop-self

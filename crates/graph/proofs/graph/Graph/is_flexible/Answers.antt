@@ -1,5 +1,4 @@
 -- `Graph::is_flexible` meets its contract.
-use borrow.Author.Rules.{rules}
 use native.Mathlib.Omega.{arith}
 use Rattle.graph.specs.Cells.{nodes_few}
 use Rattle.graph.specs.Nodes.{flex_of}

@@ -1,5 +1,4 @@
 -- `Graph::is_root` meets its contract.
-use borrow.Author.Rules.{rules}
 use Rattle.graph.specs.Nodes.{root_of}
 use Rattle.graph.proofs.graph.Graph.is_root.Goals as goal
 

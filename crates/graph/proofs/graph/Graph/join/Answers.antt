@@ -1,5 +1,4 @@
 -- `Graph::join` meets its contract.
-use borrow.Author.Rules.{rules}
 use native.Mathlib.Omega.{arith}
 use Rattle.graph.specs.Cells.{room, nodes_few}
 use Rattle.graph.specs.Joins.{shows_joined, behind-link}

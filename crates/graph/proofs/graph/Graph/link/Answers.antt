@@ -1,5 +1,4 @@
 -- `Graph::link` meets its contract.
-use borrow.Author.Rules.{rules}
 use native.Mathlib.Omega.{arith}
 use Rattle.graph.specs.Cells.{room}
 use Rattle.graph.proofs.graph.Graph.link.Goals as goal

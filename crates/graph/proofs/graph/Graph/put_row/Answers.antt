@@ -1,5 +1,4 @@
 -- `Graph::put_row` meets its contract.
-use borrow.Author.Rules.{rules}
 use native.Mathlib.Omega.{arith}
 use lib.ListN.{length-set}
 use Rattle.graph.specs.Pushes.{rows_written}

@@ -1,5 +1,4 @@
 -- `Graph::share_flex` meets its contract.
-use borrow.Author.Rules.{rules}
 use native.Mathlib.Omega.{arith}
 use Rattle.graph.specs.Cells.{nodes_few, unchanged_same}
 use Rattle.graph.specs.Links.{laid_marked}

@@ -1,5 +1,4 @@
 -- `Memo::insert` meets its contract.
-use borrow.Author.Rules.{rules}
 use native.Mathlib.Omega.{arith}
 use lib.ListN.{length-set}
 use Rattle.memo.specs.Recall.{length-recall, inserted}

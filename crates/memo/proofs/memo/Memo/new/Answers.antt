@@ -1,5 +1,4 @@
 -- `Memo::new` meets its contract.
-use borrow.Author.Rules.{rules}
 use mathlib.Core.Path.{refl}
 use lib.ListN.{length}
 use Rattle.memo.specs.Recall.{begun-new}

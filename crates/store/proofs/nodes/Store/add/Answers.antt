@@ -1,5 +1,4 @@
 -- `Store::add` meets its contract.
-use borrow.Author.Rules.{rules}
 use mathlib.Core.Path.{sym, subst}
 use native.Mathlib.Omega.{arith}
 use Rattle.store.specs.Table.{more_len, here, widens, wider, room-left, half_full, slot_inside, slots_fit}

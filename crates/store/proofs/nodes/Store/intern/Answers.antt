@@ -1,5 +1,4 @@
 -- `Store::intern` meets its contract.
-use borrow.Author.Rules.{rules}
 use mathlib.Core.Path.{refl}
 use native.Mathlib.Omega.{arith}
 use Rattle.store.specs.Words.{begins_long}

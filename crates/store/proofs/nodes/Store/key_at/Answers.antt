@@ -1,5 +1,4 @@
 -- `Store::key_at` meets its contract: what stands where the index says.
-use borrow.Author.Rules.{rules}
 use mathlib.Core.Path.{◌∙◌}
 use Prim.Native.Nat.{ℕ, ◌+◌}
 use native.Mathlib.Omega.{arith}

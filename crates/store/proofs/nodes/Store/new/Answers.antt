@@ -1,5 +1,4 @@
 -- `Store::new` meets its contract.
-use borrow.Author.Rules.{rules}
 use mathlib.Core.Path.{◌≡◌, sym, subst}
 use mathlib.Core.List.{[]}
 use native.Mathlib.Omega.{arith}

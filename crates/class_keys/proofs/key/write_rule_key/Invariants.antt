@@ -1,0 +1,15 @@
+-- `write_rule_key` meets its contract: with each turn one word more of the key stands there.
+use borrow.Author.Rules.{rules}
+use mathlib.Core.Path.{sym, ◌∙◌}
+use Prim.Native.Nat.{◌-◌}
+use native.Mathlib.Omega.{arith}
+use lib.ListN.{length-set}
+use Rattle.pack_read.specs.Held.{readable}
+use Rattle.class_keys.specs.Writing.{Writing, writing_first, writing_left, writing_ref, writing_inside, writing_more, writing_all}
+use Rattle.class_keys.proofs.key.write_rule_key.Given as goal
+
+abbrev pub invariant-loop-i : goal.invariant-loop-i
+invariant-loop-i l = Writing l.pack l.work l.class l.c l.s l.n l.i l.key
+
+abbrev pub decreases-loop-i : goal.decreases-loop-i
+decreases-loop-i l = l.n - l.i

@@ -1,0 +1,19 @@
+-- `mark_refs` meets its contract: what is left to be marked gives the whole.
+use borrow.Author.Rules.{rules}
+use mathlib.Core.Path.{◌≡◌, refl, sym, ap, ◌∙◌}
+use mathlib.Core.List.{map}
+use Prim.Native.Nat.{◌-◌}
+use native.Mathlib.Omega.{arith}
+use lib.ListN.{length, drop, length-set}
+use Rattle.definition.specs.Pack.{step_of}
+use Rattle.definition.specs.Keys.{first_of}
+use Rattle.pack_read.specs.Held.{OfHeld, readable}
+use Rattle.class_keys.specs.Marks.{mark_all}
+use Rattle.class_keys.specs.Marking.{all-turn, all_end, first_inside, ref-given}
+use Rattle.class_keys.proofs.marks.mark_refs.Given as goal
+
+abbrev pub invariant-loop-i : goal.invariant-loop-i
+invariant-loop-i l = (length l.marks ≡ length l.initial.marks) × OfHeld l.pack l.work l.c (λ P. mark_all l.marks (map (first_of P) (drop l.i (step_of P l.s).refs)) ≡ mark_all l.initial.marks (map (first_of P) (step_of P l.s).refs))
+
+abbrev pub decreases-loop-i : goal.decreases-loop-i
+decreases-loop-i l = l.n - l.i

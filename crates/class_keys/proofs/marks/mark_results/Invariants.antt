@@ -1,0 +1,21 @@
+-- `mark_results` meets its contract: what is left to be marked gives the whole.
+use borrow.Author.Rules.{rules}
+use mathlib.Core.Path.{◌≡◌, refl, sym, ap, ◌∙◌}
+use mathlib.Core.List.{map}
+use Prim.Native.Nat.{◌-◌}
+use native.Mathlib.Omega.{arith}
+use lib.ListN.{length, drop, length-set}
+use Rattle.definition.specs.Pack.{Result}
+use Rattle.definition.specs.Verdict.{no_result}
+use Rattle.pack_read.specs.Reads.{length_results}
+use Rattle.definition.specs.Keys.{first_of}
+use Rattle.pack_read.specs.Held.{OfHeld, readable}
+use Rattle.class_keys.specs.Marks.{mark_all, result_steps}
+use Rattle.class_keys.specs.Marking.{all-turn, all_end, first_inside, result-given}
+use Rattle.class_keys.proofs.marks.mark_results.Given as goal
+
+abbrev pub invariant-loop-i : goal.invariant-loop-i
+invariant-loop-i l = (length l.marks ≡ length l.initial.marks) × OfHeld l.pack l.work l.c (λ P. mark_all l.marks (map (λ (r : Result). first_of P r.step) (drop l.i P.results)) ≡ mark_all l.initial.marks (result_steps P))
+
+abbrev pub decreases-loop-i : goal.decreases-loop-i
+decreases-loop-i l = l.n - l.i

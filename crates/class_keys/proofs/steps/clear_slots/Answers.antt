@@ -1,0 +1,7 @@
+-- `clear_slots` meets its contract.
+use borrow.Author.Rules.{rules}
+use Rattle.class_keys.specs.Turns.{cleared}
+use Rattle.class_keys.proofs.steps.clear_slots.Goals as goal
+
+pub returns : goal.returns
+returns c = let a = c.args in cleared a.work.now a.k a.n c.requires c.zero_words.new.words c.zero_words.ensures

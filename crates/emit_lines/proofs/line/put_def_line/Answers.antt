@@ -1,0 +1,17 @@
+-- `put_def_line` meets its contract.
+use borrow.Author.Rules.{rules}
+use Rattle.definition.specs.Ascii.{bytes}
+use Rattle.text_write.specs.Written.{adds_then, adds_as}
+use Rattle.emit_lines.specs.Lines.{def_line_law}
+use Rattle.emit_lines.proofs.line.put_def_line.Goals as goal
+
+-- TODO 4 (λ c κs. c.before.before.before.before.before.before.before.before.before.before.before.before.before.before.before.before.before.before.requires)
+
+pub returns : goal.returns
+unfolding bytes
+returns c = λ P R t e.
+    adds_as _ _ _ _ _ _ (def_line_law P _ t _ _ _ e)
+    (adds_then _ _ _ _ _ _ _ _ c.put_bytes-kind.ensures
+    (adds_then _ _ _ _ _ _ _ _ c.put_definition-name.ensures
+    (adds_then _ _ _ _ _ _ _ _ c.put_byte-blank.ensures.byte
+    (adds_then _ _ _ _ _ _ _ _ (c.put_over-over.ensures P R) c.put_bytes.ensures))))

@@ -1,0 +1,21 @@
+-- `put_words` meets its contract: with each turn one word more is there.
+use borrow.Author.Rules.{rules}
+use mathlib.Core.Path.{◌≡◌, refl, ap, sym, ◌∙◌}
+use mathlib.Core.List.{List, map}
+use Prim.Native.Nat.{ℕ, ◌-◌, ◌≤◌}
+use native.Mathlib.Omega.{arith}
+use lib.ListN.{length, take}
+use lib.Seq.{take_all}
+use Rattle.emission.specs.Name.{name_with}
+use Rattle.emission.specs.Text.{blanked}
+use Rattle.emission.specs.Render.{word_text}
+use Rattle.text_write.specs.Written.{adds_none, adds_then, adds_as}
+use Rattle.emit_lines.specs.Side.{blanked-next}
+use Rattle.emit_lines.specs.Words.{word_in, Puts, words_each}
+use Rattle.emit_lines.proofs.word.put_words.Given as goal
+
+abbrev pub invariant-loop-i : goal.invariant-loop-i
+invariant-loop-i l = (l.i ≤ length l.words) × (length l.text ≡ length l.initial.text) × Puts l.pack l.work l.initial.text l.text l.s l.at (λ P L. blanked (map (λ w. word_text P L (word_in w)) (take l.i l.words))) l.end
+
+abbrev pub decreases-loop-i : goal.decreases-loop-i
+decreases-loop-i l = length l.words - l.i

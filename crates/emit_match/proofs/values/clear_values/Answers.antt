@@ -1,0 +1,10 @@
+-- `clear_values` meets its contract.
+use borrow.Author.Rules.{rules}
+use Rattle.emit_match.specs.Values.{cleared-empty, cleared_outside}
+use Rattle.emit_match.proofs.values.clear_values.Goals as goal
+
+pub returns : goal.returns
+returns c =
+    let a = c.args in
+    let z = c.zero_words in
+    record { empty = cleared-empty a.work.now a.at c.requires z.new.words z.ensures; frame = cleared_outside a.work.now a.at c.requires z.new.words z.ensures }
