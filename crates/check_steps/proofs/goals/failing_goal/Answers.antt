@@ -1,10 +1,8 @@
 -- `failing_goal` meets its contract: with each turn the goals left give the same answer.
-use borrow.Author.Rules.{rules}
-use Prim.Native.Nat.{◌-◌, ◌≤◌}
 use native.Mathlib.Omega.{arith}
 use Rattle.definition.specs.Verdict.{no_goal, met}
 use Rattle.pack_read.specs.Reads.{length_goals}
-use Rattle.check_steps.specs.First.{LeftFrom, left-all, left_on, left_at, left_end}
+use Rattle.check_steps.specs.First.{left-all, left_on, left_at, left_end}
 use Rattle.check_steps.specs.Goals.{goal-given}
 use mathlib.Core.Bool.{not}
 use Rattle.std.proofs.Common.{ap}

@@ -1,5 +1,4 @@
 -- `goal_is_met` meets its contract: a goal is met just if a step was found.
-use borrow.Author.Rules.{rules}
 use Rattle.check_steps.specs.Goals.{goal_recorded, goal_found, goal_missed}
 use Rattle.check_steps.proofs.goals.goal_is_met.Goals as goal
 

@@ -1,5 +1,4 @@
 -- `match_turn` meets its contract.
-use borrow.Author.Rules.{rules}
 use mathlib.Core.Path.{sym, ◌∙◌}
 use native.Mathlib.Omega.{arith}
 use Rattle.pack_tables.specs.Catalog.{records_few}

@@ -1,18 +1,10 @@
 -- `rule_matches` meets its contract: with each turn as much is to come as before.
-use borrow.Author.Rules.{rules}
-use mathlib.Core.Path.{◌≡◌, refl, sym, ap, ◌∙◌}
-use mathlib.Core.List.{List, []}
-use Prim.Native.Nat.{◌-◌}
+use mathlib.Core.Path.{refl, sym, ap, ◌∙◌}
+use mathlib.Core.List.{[]}
 use native.Mathlib.Numerals.{add-one}
 use native.Mathlib.Omega.{arith}
-use lib.ListN.{length}
-use Rattle.definition.specs.Pack.{rule_of}
-use Rattle.definition.specs.Verdict.{Bound, matched}
-use Rattle.base.specs.Stack.{stacked}
-use Rattle.pack_read.specs.Reads.{rule_words}
-use Rattle.pack_read.specs.Held.{OfHeld, readable}
-use Rattle.check_steps.specs.Words.{match_words}
-use Rattle.check_steps.specs.Matching.{Matching, Ready, rest}
+use Rattle.definition.specs.Verdict.{matched}
+use Rattle.pack_read.specs.Held.{readable}
 use Rattle.check_steps.specs.MatchTurns.{at_first}
 use Rattle.check_steps.proofs.matching.rule_matches.Goals as goal
 

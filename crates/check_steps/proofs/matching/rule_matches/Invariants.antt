@@ -1,19 +1,15 @@
 -- `rule_matches` meets its contract: with each turn as much is to come as before.
-use borrow.Author.Rules.{rules}
-use mathlib.Core.Path.{◌≡◌, refl, sym, ap, ◌∙◌}
+use mathlib.Core.Path.{◌≡◌}
 use mathlib.Core.List.{List, []}
 use Prim.Native.Nat.{◌-◌}
-use native.Mathlib.Numerals.{add-one}
-use native.Mathlib.Omega.{arith}
 use lib.ListN.{length}
 use Rattle.definition.specs.Pack.{rule_of}
-use Rattle.definition.specs.Verdict.{Bound, matched}
+use Rattle.definition.specs.Verdict.{Bound}
 use Rattle.base.specs.Stack.{stacked}
 use Rattle.pack_read.specs.Reads.{rule_words}
-use Rattle.pack_read.specs.Held.{OfHeld, readable}
+use Rattle.pack_read.specs.Held.{OfHeld}
 use Rattle.check_steps.specs.Words.{match_words}
 use Rattle.check_steps.specs.Matching.{Matching, Ready, rest}
-use Rattle.check_steps.specs.MatchTurns.{at_first}
 use Rattle.check_steps.proofs.matching.rule_matches.Given as goal
 
 abbrev pub invariant-loop-next : goal.invariant-loop-next

@@ -1,7 +1,6 @@
 -- `push_arguments` meets its contract: with each turn one argument more stands on the stack.
-use borrow.Author.Rules.{rules}
 use Rattle.pack_read.specs.Held.{readable}
-use Rattle.check_steps.specs.Pushed.{ArgumentsFrom, node_recorded, arguments_none, arguments_left, arguments_room, arguments_more, arguments_all}
+use Rattle.check_steps.specs.Pushed.{node_recorded, arguments_none, arguments_left, arguments_room, arguments_more, arguments_all}
 use Rattle.check_steps.proofs.pending.push_arguments.Goals as goal
 
 pub node_arity-i-requires : goal.node_arity-i-requires

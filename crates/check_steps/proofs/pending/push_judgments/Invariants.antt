@@ -1,8 +1,5 @@
 -- `push_judgments` meets its contract: with each turn the judgment of one ref more stands on the stack.
-use borrow.Author.Rules.{rules}
-use native.Mathlib.Omega.{arith}
-use Rattle.pack_read.specs.Held.{readable}
-use Rattle.check_steps.specs.Pushed.{JudgmentsFrom, step_recorded, judgments_own, judgments-left, judgments-room, ref_recorded, judgments-more, judgments-all}
+use Rattle.check_steps.specs.Pushed.{JudgmentsFrom}
 use Rattle.check_steps.proofs.pending.push_judgments.Given as goal
 
 abbrev pub invariant-loop-k : goal.invariant-loop-k

@@ -1,15 +1,11 @@
 -- `failing_step` meets its contract: with each turn the steps left give the same answer.
-use borrow.Author.Rules.{rules}
-use mathlib.Core.Path.{◌≡◌, refl, ◌∙◌}
+use mathlib.Core.Path.{◌≡◌}
 use Prim.Native.Nat.{◌-◌, ◌≤◌}
-use native.Mathlib.Omega.{arith}
 use lib.ListN.{length}
-use Rattle.definition.specs.Pack.{no_step, step_of}
+use Rattle.definition.specs.Pack.{no_step}
 use Rattle.definition.specs.Verdict.{passes}
 use Rattle.pack_read.specs.Reads.{length_steps}
-use Rattle.check_steps.specs.First.{LeftFrom, left-all, left_on, left_at, left_end}
-use mathlib.Core.Bool.{not}
-use Rattle.std.proofs.Common.{ap}
+use Rattle.check_steps.specs.First.{LeftFrom}
 use Rattle.check_steps.proofs.steps.failing_step.Given as goal
 
 abbrev pub invariant-loop-i : goal.invariant-loop-i

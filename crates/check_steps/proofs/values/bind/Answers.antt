@@ -1,5 +1,4 @@
 -- `bind` meets its contract: no value yet, or the one that it has.
-use borrow.Author.Rules.{rules}
 use Rattle.check_steps.specs.Values.{bind-first, bind_again}
 use Rattle.check_steps.proofs.values.bind.Goals as goal
 

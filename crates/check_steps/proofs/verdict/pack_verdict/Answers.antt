@@ -1,5 +1,4 @@
 -- `pack_verdict` meets its contract.
-use borrow.Author.Rules.{rules}
 use mathlib.Core.Path.{sym, ap, ◌∙◌}
 use Rattle.check_steps.specs.First.{failing_of}
 use Rattle.check_steps.specs.Decided.{step_fails, goal_fails, all_accepted}

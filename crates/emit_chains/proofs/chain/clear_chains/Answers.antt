@@ -1,5 +1,4 @@
 -- `clear_chains` meets its contract.
-use borrow.Author.Rules.{rules}
 use Rattle.emit_chains.specs.Places.{cleared-empty, cleared_outside}
 use Rattle.emit_chains.proofs.chain.clear_chains.Goals as goal
 

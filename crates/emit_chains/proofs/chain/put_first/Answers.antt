@@ -1,5 +1,4 @@
 -- `put_first` meets its contract: two stores.
-use borrow.Author.Rules.{rules}
 use Prim.Native.Nat.{◌+◌}
 use native.Mathlib.Omega.{arith}
 use lib.ListN.{get_or, length-set}

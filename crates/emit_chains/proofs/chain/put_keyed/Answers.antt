@@ -1,5 +1,4 @@
 -- `put_keyed` meets its contract.
-use borrow.Author.Rules.{rules}
 use Prim.Native.Nat.{◌+◌}
 use native.Mathlib.Omega.{arith}
 use Rattle.base.specs.Outside.{outside_none}

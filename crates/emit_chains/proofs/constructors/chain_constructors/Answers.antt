@@ -1,12 +1,11 @@
 -- `chain_constructors` meets its contract: with each turn one symbol more is chained.
-use borrow.Author.Rules.{rules}
 use Prim.Native.Nat.{ℕ, ◌-◌}
 use native.Mathlib.Omega.{arith}
 use lib.ListN.{length}
 use Rattle.definition.specs.Pack.{Pack, symbol_of}
 use Rattle.pack_read.specs.Held.{readable}
 use Rattle.pack_read.specs.Reads.{length_symbols}
-use Rattle.emit_chains.specs.Chaining.{ready_few, ready_cleared, Chaining, chaining_none, chaining_more, chaining_all, chaining_outside}
+use Rattle.emit_chains.specs.Chaining.{ready_few, ready_cleared, chaining_none, chaining_more, chaining_all, chaining_outside}
 use Rattle.emit_chains.proofs.constructors.chain_constructors.Goals as goal
 
 abbrev key : Pack → ℕ → ℕ

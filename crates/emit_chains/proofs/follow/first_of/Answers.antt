@@ -1,5 +1,4 @@
 -- `first_of` meets its contract.
-use borrow.Author.Rules.{rules}
 use Rattle.emit_chains.specs.Follow.{first-at}
 use Rattle.emit_chains.proofs.follow.first_of.Goals as goal
 

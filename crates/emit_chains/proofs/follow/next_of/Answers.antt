@@ -1,5 +1,4 @@
 -- `next_of` meets its contract.
-use borrow.Author.Rules.{rules}
 use Rattle.emit_chains.specs.Follow.{next-at}
 use Rattle.emit_chains.proofs.follow.next_of.Goals as goal
 

@@ -2,7 +2,6 @@
 use mathlib.Core.Path.{sym}
 use Prim.Native.Nat.{◌-◌}
 use native.Mathlib.Omega.{arith}
-use borrow.Author.Rules.{rules}
 use Rattle.emit_chains.specs.Follow.{number_in_law, no_number_in}
 use Rattle.emit_chains.proofs.follow.number_in.Goals as goal
 

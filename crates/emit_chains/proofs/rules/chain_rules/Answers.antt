@@ -1,12 +1,11 @@
 -- `chain_rules` meets its contract: with each turn one rule more is chained.
-use borrow.Author.Rules.{rules}
 use Prim.Native.Nat.{ℕ, ◌-◌}
 use native.Mathlib.Omega.{arith}
 use lib.ListN.{length}
 use Rattle.definition.specs.Pack.{Pack, rule_of}
 use Rattle.pack_read.specs.Reads.{length-rules}
 use Rattle.emit_chains.specs.Head.{top_of}
-use Rattle.emit_chains.specs.Chaining.{ready_few, ready_cleared, Chaining, chaining_none, chaining_more, chaining_all, chaining_outside}
+use Rattle.emit_chains.specs.Chaining.{ready_few, ready_cleared, chaining_none, chaining_more, chaining_all, chaining_outside}
 use Rattle.emit_chains.proofs.rules.chain_rules.Goals as goal
 
 abbrev key : Pack → ℕ → ℕ

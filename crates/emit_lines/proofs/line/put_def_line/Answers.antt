@@ -5,8 +5,6 @@ use Rattle.text_write.specs.Written.{adds_then, adds_as}
 use Rattle.emit_lines.specs.Lines.{def_line_law}
 use Rattle.emit_lines.proofs.line.put_def_line.Goals as goal
 
--- TODO 4 (λ c κs. c.before.before.before.before.before.before.before.before.before.before.before.before.before.before.before.before.before.before.requires)
-
 pub returns : goal.returns
 unfolding bytes
 returns c = λ P R t e.

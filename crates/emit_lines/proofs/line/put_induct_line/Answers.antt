@@ -5,8 +5,6 @@ use Rattle.text_write.specs.Written.{adds_then, adds_as}
 use Rattle.emit_lines.specs.Lines.{induct-line}
 use Rattle.emit_lines.proofs.line.put_induct_line.Goals as goal
 
--- TODO 4 (λ c κs. c.before.before.before.before.before.before.before.before.before.before.before.before.before.before.before.before.before.before.before.requires)
-
 pub returns : goal.returns
 unfolding bytes
 returns c = λ P R t e.

@@ -5,10 +5,6 @@ use Rattle.text_write.specs.Written.{adds_then, adds_as}
 use Rattle.emit_lines.specs.Lines.{step_line}
 use Rattle.emit_lines.proofs.line.put_step_line.Goals as goal
 
--- TODO 2 (λ c κs. c.before.before.before.before.before.before.before.before.before.before.before.requires)
-
--- TODO 8 (λ c κs. c.before.before.before.before.before.before.before.before.before.before.before.before.before.before.before.before.before.before.before.before.before.before.before.before.before.before.before.before.before.requires)
-
 pub returns : goal.returns
 unfolding bytes
 returns c = λ P R t e.

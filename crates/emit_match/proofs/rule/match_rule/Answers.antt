@@ -36,6 +36,6 @@ returns c =
       matched = λ P R Q S.
           let l : c.args.r < length P.rules = omega (arith, p.1, G.held.reads.rules.many, R.rules.many) in
           let i = c.conclusion_from-from.ensures P R Q (c.rule_vars-vars.ensures P R) in
-          begun_answers P Q _ S _ _ l _ i _ p.2 _ _ _ B c.match_words.last.work c.match_words.result (c.match_words.ensures.matched P (given_reads _ _ _ _ G _ B.stays P R) Q S l [] (begun_partly P Q _ S _ _ l _ i _ p.2 _ _ _ B));
+          begun_answers P Q _ S _ _ l _ i _ p.2 _ _ _ B c.match_words.new.work c.match_words.result (c.match_words.ensures.matched P (given_reads _ _ _ _ G _ B.stays P R) Q S l [] (begun_partly P Q _ S _ _ l _ i _ p.2 _ _ _ B));
       frame = stays_then _ _ _ _ B.stays c.match_words.ensures.frame;
     }

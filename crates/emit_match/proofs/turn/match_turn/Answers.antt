@@ -42,7 +42,7 @@ returns-then-w-lt-VAR c =
     let G = p.0 in
     let H = G.held in
     let took = c.in-Word.ensures in
-    let word = c.rule_word-w.ensures H.pack H.reads (there H.pack H.proper _ G.sorted _ _ p.2 _ G.laid _ _ p.1 p.4 _ _ took) in record { turn = λ P R Q S l bs M. symbol_goes P Q _ S _ _ l _ G.laid _ _ bs M _ _ took _ (c.rule_word-w.ensures P R (there P Q _ S _ _ l _ G.laid _ _ bs M _ _ took)) c.if-w-lt-VAR.true c.match_symbol.last.work c.match_symbol.result c.match_symbol.ensures; frame = symbol_stays H.pack H.proper _ G.sorted _ _ p.2 _ G.laid _ _ p.1 p.4 _ _ took _ word c.if-w-lt-VAR.true c.match_symbol.last.work c.match_symbol.result c.match_symbol.ensures }
+    let word = c.rule_word-w.ensures H.pack H.reads (there H.pack H.proper _ G.sorted _ _ p.2 _ G.laid _ _ p.1 p.4 _ _ took) in record { turn = λ P R Q S l bs M. symbol_goes P Q _ S _ _ l _ G.laid _ _ bs M _ _ took _ (c.rule_word-w.ensures P R (there P Q _ S _ _ l _ G.laid _ _ bs M _ _ took)) c.if-w-lt-VAR.true c.match_symbol.new.work c.match_symbol.result c.match_symbol.ensures; frame = symbol_stays H.pack H.proper _ G.sorted _ _ p.2 _ G.laid _ _ p.1 p.4 _ _ took _ word c.if-w-lt-VAR.true c.match_symbol.new.work c.match_symbol.result c.match_symbol.ensures }
 
 pub bind-requires : goal.bind-requires
 bind-requires c =

@@ -1,12 +1,11 @@
 -- `advance` meets its contract: with each turn one argument more ends.
-use borrow.Author.Rules.{rules}
 use mathlib.Core.Path.{◌∙◌}
-use Prim.Native.Nat.{◌+◌, ◌*◌, ◌-◌}
+use Prim.Native.Nat.{◌+◌, ◌*◌}
 use native.Mathlib.Omega.{arith}
 use lib.ListN.{length-set}
 use Rattle.graph.specs.Cells.{unchanged_same, unchanged_then}
-use Rattle.graph_unify.specs.Circles.{Steppings, stepping_ready, stepping_ends, stepping_deeper, stepping_circle, walking_here, walking_laid}
-use Rattle.graph_unify.specs.CircleWords.{path_in, colour_in, Beyond}
+use Rattle.graph_unify.specs.Circles.{stepping_ready, stepping_ends, stepping_deeper, stepping_circle, walking_here, walking_laid}
+use Rattle.graph_unify.specs.CircleWords.{path_in, colour_in}
 use Rattle.graph_unify.specs.CircleTurns.{walking_low, node_there, node_inside, advance_first, advance_done}
 use Rattle.graph_unify.proofs.circle.advance.Goals as goal
 

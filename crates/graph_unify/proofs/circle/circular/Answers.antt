@@ -1,11 +1,10 @@
 -- `circular` meets its contract: with each node one more was seen.
-use borrow.Author.Rules.{rules}
-use mathlib.Core.Path.{◌≡◌, refl}
-use Prim.Native.Nat.{◌-◌, ◌≤◌}
+use mathlib.Core.Path.{refl}
+use Prim.Native.Nat.{◌≤◌}
 use native.Mathlib.Omega.{arith}
 use Rattle.graph.specs.Cells.{unchanged_same, unchanged_then}
-use Rattle.graph_unify.specs.Circles.{few_nodes, Tellings, telling_ready, telling_on, telling_circle, telling_done}
-use Rattle.graph_unify.specs.CircleWords.{path_in, colour_in, Beyond}
+use Rattle.graph_unify.specs.Circles.{few_nodes, telling_ready, telling_on, telling_circle, telling_done}
+use Rattle.graph_unify.specs.CircleWords.{path_in, colour_in}
 use Rattle.graph_unify.specs.CircleTurns.{unseen_long, unseen-held, telling_unseen, tells-unseen}
 use Rattle.graph_unify.proofs.circle.circular.Goals as goal
 

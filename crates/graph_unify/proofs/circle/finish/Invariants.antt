@@ -1,10 +1,6 @@
 -- `finish` meets its contract: each turn leaves less to do.
-use borrow.Author.Rules.{rules}
-use mathlib.Core.Path.{◌≡◌}
-use native.Mathlib.Omega.{arith}
-use Rattle.graph.specs.Cells.{unchanged_same, unchanged_then}
 use Rattle.graph_unify.specs.Paths.{to_do}
-use Rattle.graph_unify.specs.Circles.{Onwards, onward-first, onward-at, onward_ready, onward_on, onward_less, onward_circle, onward-done}
+use Rattle.graph_unify.specs.Circles.{Onwards}
 use Rattle.graph_unify.specs.CircleWords.{path_in, colour_in, Beyond}
 use Rattle.graph_unify.proofs.circle.finish.Given as goal
 

@@ -1,5 +1,4 @@
 -- `look` meets its contract.
-use borrow.Author.Rules.{rules}
 use native.Mathlib.Omega.{arith}
 use Rattle.graph_unify.specs.Circles.{looking_node, looking_laid, looking_argument, looking_found, looking_held, looking_small}
 use Rattle.graph_unify.specs.CircleWords.{looking_low, looking_entering, looks_ends_in, looks_circle_in, looks_variable_in, looks_deeper_in}

@@ -1,5 +1,4 @@
 -- `walk` meets its contract.
-use borrow.Author.Rules.{rules}
 use native.Mathlib.Omega.{arith}
 use Rattle.graph_unify.specs.CircleTurns.{idle_wide, idle_inside, idle-entering, walks_again, walks_ready, walks_on}
 use Rattle.graph_unify.proofs.circle.walk.Goals as goal

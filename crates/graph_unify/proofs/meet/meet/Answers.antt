@@ -1,5 +1,4 @@
 -- `meet` meets its contract.
-use borrow.Author.Rules.{rules}
 use native.Mathlib.Omega.{arith}
 use mathlib.Core.Path.{sym, ◌∙◌}
 use Rattle.graph.specs.Cells.{unchanged_same, laid_rows}

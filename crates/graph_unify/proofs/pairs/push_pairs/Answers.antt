@@ -1,11 +1,9 @@
 -- `push_pairs` meets its contract.
-use borrow.Author.Rules.{rules}
-use Prim.Native.Nat.{◌-◌}
 use native.Mathlib.Omega.{arith}
 use lib.ListN.{length-set}
 use mathlib.Core.Path.{refl, sym, subst}
 use Rattle.graph.specs.Cells.{laid_rows}
-use Rattle.graph_unify.specs.Pairs.{Piled, PairsOn, pile_none, pile_left, pile_right, pile_more, pile_all, pile_empty, pile_topmost}
+use Rattle.graph_unify.specs.Pairs.{PairsOn, pile_none, pile_left, pile_right, pile_more, pile_all, pile_empty, pile_topmost}
 use Rattle.graph_unify.proofs.pairs.push_pairs.Goals as goal
 
 pub arity-a-requires : goal.arity-a-requires

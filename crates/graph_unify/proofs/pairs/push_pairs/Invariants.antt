@@ -1,11 +1,6 @@
 -- `push_pairs` meets its contract.
-use borrow.Author.Rules.{rules}
 use Prim.Native.Nat.{◌-◌}
-use native.Mathlib.Omega.{arith}
-use lib.ListN.{length-set}
-use mathlib.Core.Path.{refl, sym, subst}
-use Rattle.graph.specs.Cells.{laid_rows}
-use Rattle.graph_unify.specs.Pairs.{Piled, PairsOn, pile_none, pile_left, pile_right, pile_more, pile_all, pile_empty, pile_topmost}
+use Rattle.graph_unify.specs.Pairs.{Piled}
 use Rattle.graph_unify.proofs.pairs.push_pairs.Given as goal
 
 abbrev pub invariant-loop-i : goal.invariant-loop-i

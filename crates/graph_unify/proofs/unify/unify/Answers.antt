@@ -1,12 +1,10 @@
 -- `unify` meets its contract.
-use borrow.Author.Rules.{rules}
 use mathlib.Core.Path.{◌≡◌, refl, ◌∙◌}
-use Prim.Native.Nat.{ℕ, ◌+◌, ◌-◌}
+use Prim.Native.Nat.{◌+◌}
 use native.Mathlib.Omega.{arith}
-use lib.ListN.{length, length-set}
+use lib.ListN.{length-set}
 use Rattle.graph.specs.Cells.{rows_end}
-use Rattle.graph_unify.specs.Pairs.{Topmost}
-use Rattle.graph_unify.specs.Unifies.{Going, first_long, first-held, first_topmost, topmost_at, going_first, joined-first, clash_first, going_at, going_ready, going_few, going_on, going_clash, going_done}
+use Rattle.graph_unify.specs.Unifies.{first_long, first-held, first_topmost, topmost_at, going_first, joined-first, clash_first, going_at, going_ready, going_few, going_on, going_clash, going_done}
 use Rattle.graph_unify.proofs.unify.unify.Goals as goal
 
 pub pairs_at-rows-requires : goal.pairs_at-rows-requires

@@ -1,12 +1,9 @@
 -- `unify` meets its contract.
-use borrow.Author.Rules.{rules}
-use mathlib.Core.Path.{◌≡◌, refl, ◌∙◌}
+use mathlib.Core.Path.{◌≡◌}
 use Prim.Native.Nat.{ℕ, ◌+◌, ◌-◌}
-use native.Mathlib.Omega.{arith}
-use lib.ListN.{length, length-set}
-use Rattle.graph.specs.Cells.{rows_end}
+use lib.ListN.{length}
 use Rattle.graph_unify.specs.Pairs.{Topmost}
-use Rattle.graph_unify.specs.Unifies.{Going, first_long, first-held, first_topmost, topmost_at, going_first, joined-first, clash_first, going_at, going_ready, going_few, going_on, going_clash, going_done}
+use Rattle.graph_unify.specs.Unifies.{Going}
 use Rattle.graph_unify.proofs.unify.unify.Given as goal
 
 abbrev pub invariant-loop-p : goal.invariant-loop-p

@@ -1,5 +1,4 @@
 -- `body_half` meets its contract.
-use borrow.Author.Rules.{rules}
 use mathlib.Core.Path.{◌∙◌}
 use native.Mathlib.Omega.{arith}
 use Rattle.pack_read.specs.Laws.{record_inside, record_le}

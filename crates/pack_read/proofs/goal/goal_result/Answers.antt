@@ -1,5 +1,4 @@
 -- `goal_result` meets its contract.
-use borrow.Author.Rules.{rules}
 use native.Mathlib.Omega.{arith}
 use Rattle.pack_read.specs.Says.{result-sought, results_keyed}
 use Rattle.pack_read.proofs.goal.goal_result.Goals as goal

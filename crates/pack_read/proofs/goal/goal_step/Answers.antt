@@ -1,5 +1,4 @@
 -- `goal_step` meets its contract: the result of the goal's name has its judgment, or another, or there is none.
-use borrow.Author.Rules.{rules}
 use Rattle.pack_read.specs.Held.{readable}
 use Rattle.pack_read.specs.Goals.{step-none, result_recorded, step_recorded, step_same, step_other}
 use Rattle.pack_read.proofs.goal.goal_step.Goals as goal

@@ -1,5 +1,4 @@
 -- `name_of` meets its contract.
-use borrow.Author.Rules.{rules}
 use native.Mathlib.Omega.{arith}
 use Rattle.pack_tables.specs.Catalog.{record_framed}
 use Rattle.pack_read.specs.Laws.{record_end, record_key}

@@ -1,5 +1,4 @@
 -- `symbol_name` meets its contract.
-use borrow.Author.Rules.{rules}
 use mathlib.Core.Path.{◌∙◌}
 use Rattle.pack_tables.specs.Catalog.{records_of}
 use Rattle.pack_read.specs.Says.{symbol_named}

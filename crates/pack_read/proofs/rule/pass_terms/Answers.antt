@@ -1,11 +1,7 @@
 -- `pass_terms` meets its contract: ahead of each word as many terms are to come as `left` says.
-use mathlib.Core.Path.{◌≡◌}
-use Prim.Native.Nat.{◌-◌}
 use native.Mathlib.Omega.{arith}
-use Rattle.definition.specs.Pack.{Terms}
-use Rattle.definition.specs.Certificate.{count}
-use Rattle.pack_read.specs.Held.{OfHeld, readable}
-use Rattle.pack_read.specs.Clause.{Spelt, Passing, passing_first, passing_few, passing_done, passing_there, passing_symbol, passing_next}
+use Rattle.pack_read.specs.Held.{readable}
+use Rattle.pack_read.specs.Clause.{passing_first, passing_few, passing_done, passing_there, passing_symbol, passing_next}
 use Rattle.pack_read.proofs.rule.pass_terms.Goals as goal
 
 pub loop-left-init : goal.loop-left-init

@@ -1,11 +1,10 @@
 -- `pass_terms` meets its contract: ahead of each word as many terms are to come as `left` says.
 use mathlib.Core.Path.{◌≡◌}
 use Prim.Native.Nat.{◌-◌}
-use native.Mathlib.Omega.{arith}
 use Rattle.definition.specs.Pack.{Terms}
 use Rattle.definition.specs.Certificate.{count}
-use Rattle.pack_read.specs.Held.{OfHeld, readable}
-use Rattle.pack_read.specs.Clause.{Spelt, Passing, passing_first, passing_few, passing_done, passing_there, passing_symbol, passing_next}
+use Rattle.pack_read.specs.Held.{OfHeld}
+use Rattle.pack_read.specs.Clause.{Spelt, Passing}
 use Rattle.pack_read.proofs.rule.pass_terms.Given as goal
 
 abbrev pub invariant-loop-left : goal.invariant-loop-left

@@ -1,5 +1,4 @@
 -- `rule_vars` meets its contract.
-use borrow.Author.Rules.{rules}
 use mathlib.Core.Path.{◌∙◌}
 use native.Mathlib.Omega.{arith}
 use Rattle.pack_tables.specs.Catalog.{records_of}

@@ -1,5 +1,4 @@
 -- `header_of` meets its contract: each test that fails makes the record bad, and they are all the tests there are.
-use borrow.Author.Rules.{rules}
 use native.Mathlib.Omega.{arith}
 use Rattle.pack_tables.specs.Header.{cut_bad, short_bad, low_bad, high_bad, falls_bad, whole_good}
 use Rattle.pack_tables.proofs.header.header_of.Goals as goal

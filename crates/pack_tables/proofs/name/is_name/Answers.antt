@@ -1,11 +1,6 @@
 -- `is_name` meets its contract: with each turn what is left to test gives the same answer.
-use borrow.Author.Rules.{rules}
-use mathlib.Core.Path.{◌≡◌, sym, ◌∙◌}
-use Prim.Native.Nat.{◌-◌}
+use mathlib.Core.Path.{sym, ◌∙◌}
 use native.Mathlib.Omega.{arith}
-use lib.ListN.{length, drop}
-use Rattle.definition.specs.Test.{all}
-use Rattle.definition.specs.Theory.{name_byte, is_name}
 use Rattle.pack_tables.specs.Name.{none_no, long_no, mark_no, name_is, bytes-turn, bytes_stop, bytes-end}
 use mathlib.Core.Bool.{not}
 use Rattle.std.proofs.Common.{ap}

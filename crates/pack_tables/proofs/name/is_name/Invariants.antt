@@ -1,14 +1,9 @@
 -- `is_name` meets its contract: with each turn what is left to test gives the same answer.
-use borrow.Author.Rules.{rules}
-use mathlib.Core.Path.{◌≡◌, sym, ◌∙◌}
+use mathlib.Core.Path.{◌≡◌}
 use Prim.Native.Nat.{◌-◌}
-use native.Mathlib.Omega.{arith}
 use lib.ListN.{length, drop}
 use Rattle.definition.specs.Test.{all}
 use Rattle.definition.specs.Theory.{name_byte, is_name}
-use Rattle.pack_tables.specs.Name.{none_no, long_no, mark_no, name_is, bytes-turn, bytes_stop, bytes-end}
-use mathlib.Core.Bool.{not}
-use Rattle.std.proofs.Common.{ap}
 use Rattle.pack_tables.proofs.name.is_name.Given as goal
 
 abbrev pub invariant-loop-i : goal.invariant-loop-i

@@ -1,5 +1,4 @@
 -- `end_of` meets its contract.
-use borrow.Author.Rules.{rules}
 use mathlib.Core.Path.{ap}
 use Prim.Native.Nat.{ℕ, ◌+◌}
 use Rattle.pack_tables.specs.Place.{end_of}

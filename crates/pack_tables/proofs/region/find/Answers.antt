@@ -1,5 +1,4 @@
 -- `find` meets its contract.
-use borrow.Author.Rules.{rules}
 use Prim.Native.Nat.{◌+◌, ◌*◌}
 use native.Mathlib.Omega.{arith}
 use Rattle.pack_tables.specs.RegionLaws.{found, nowhere}

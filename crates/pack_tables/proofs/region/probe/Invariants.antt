@@ -1,12 +1,9 @@
 -- `probe` meets its contract: what the search has passed is taken, and not by the key.
-use borrow.Author.Rules.{rules}
 use Prim.Native.Nat.{◌-◌, ◌<◌}
-use native.Mathlib.Omega.{arith}
-use lib.ListN.{length, get_or}
-use Rattle.base.specs.Probe.{Passed, passed_none, passed_more}
+use lib.ListN.{length}
+use Rattle.base.specs.Probe.{Passed}
 use Rattle.pack_tables.specs.Place.{key_at}
 use Rattle.pack_tables.specs.Region.{place_in}
-use Rattle.pack_tables.specs.RegionLaws.{search_ends, search_id, unlike, alike}
 use Rattle.pack_tables.proofs.region.probe.Given as goal
 
 abbrev pub invariant-loop-id : goal.invariant-loop-id

@@ -1,13 +1,10 @@
 -- `all_below` meets its contract: with each turn the words left give the same answer.
-use borrow.Author.Rules.{rules}
-use mathlib.Core.Path.{◌≡◌, sym, ◌∙◌}
+use mathlib.Core.Path.{◌≡◌}
 use Prim.Native.Nat.{◌+◌, ◌*◌, ◌-◌}
-use native.Mathlib.Omega.{arith}
 use lib.Dec.{ltb}
 use lib.ListN.{drop}
 use Rattle.definition.specs.Test.{all}
 use Rattle.definition.specs.Theory.{words}
-use Rattle.pack_tables.specs.Row.{below-start, below-turn, below_stop, below_end}
 use Rattle.pack_tables.proofs.row.all_below.Given as goal
 
 abbrev pub invariant-loop-i : goal.invariant-loop-i

@@ -1,5 +1,4 @@
 -- `after` meets its contract: the part that is lent is all that is left.
-use borrow.Author.Rules.{rules}
 use Rattle.pack_tables.specs.Header.{lent-tail}
 use Rattle.pack_tables.proofs.unread.after.Goals as goal
 

@@ -1,5 +1,4 @@
 -- `intern_key` meets its contract.
-use borrow.Author.Rules.{rules}
 use Rattle.base.specs.Part.{part}
 use Rattle.term_lift.specs.Kept.{interns}
 use Rattle.term_lift.proofs.intern.intern_key.Goals as goal

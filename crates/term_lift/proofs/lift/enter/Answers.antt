@@ -1,5 +1,4 @@
 -- `enter` meets its contract.
-use borrow.Author.Rules.{rules}
 use native.Mathlib.Omega.{arith}
 use lib.ListN.{length-set}
 use Rattle.term_lift.proofs.lift.enter.Goals as goal

@@ -1,5 +1,4 @@
 -- `finish` meets its contract.
-use borrow.Author.Rules.{rules}
 use native.Mathlib.Omega.{arith}
 use Rattle.base.specs.Part.{part}
 use Rattle.term_lift.specs.Nodes.{key_some, back_inside, number_small, finish_id, finish_short}

@@ -1,10 +1,6 @@
 -- `key_of` meets its contract: with each turn one word more of the key stands there.
-use borrow.Author.Rules.{rules}
-use mathlib.Core.Path.{sym, ◌∙◌}
 use Prim.Native.Nat.{◌-◌}
-use native.Mathlib.Omega.{arith}
-use Rattle.pack_read.specs.Held.{readable}
-use Rattle.term_lift.specs.Keys.{Keying, ripe_recorded, keying_first, keying_left, keying_given, keying_lifted, keying_more, keying_all}
+use Rattle.term_lift.specs.Keys.{Keying}
 use Rattle.term_lift.proofs.lift.key_of.Given as goal
 
 abbrev pub invariant-loop-i : goal.invariant-loop-i

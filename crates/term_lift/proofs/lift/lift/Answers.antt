@@ -1,10 +1,9 @@
 -- `lift` meets its contract: with each turn what is left of the stack gives the same walk.
-use borrow.Author.Rules.{rules}
-use mathlib.Core.Path.{◌≡◌, refl, ◌∙◌}
+use mathlib.Core.Path.{refl, ◌∙◌}
 use native.Mathlib.Omega.{arith}
-use lib.ListN.{length, length-set}
+use lib.ListN.{length-set}
 use Rattle.store.specs.declared.nodes.Interned.TheVariants.{Short}
-use Rattle.term_lift.specs.Runs.{Walks, turns_in, walks_at, turns_at, walks_none, walks_on, walks_less, walks_short, walks_lifted, first-room, first_apart, first_starts, first_walks, first_answers, first_done}
+use Rattle.term_lift.specs.Runs.{walks_at, turns_at, walks_none, walks_on, walks_less, walks_short, walks_lifted, first-room, first_apart, first_starts, first_walks, first_answers, first_done}
 use Rattle.term_lift.proofs.lift.lift.Goals as goal
 
 abbrev dummy : Type 1

@@ -1,10 +1,7 @@
 -- `lift` meets its contract: with each turn what is left of the stack gives the same walk.
-use borrow.Author.Rules.{rules}
-use mathlib.Core.Path.{◌≡◌, refl, ◌∙◌}
-use native.Mathlib.Omega.{arith}
-use lib.ListN.{length, length-set}
-use Rattle.store.specs.declared.nodes.Interned.TheVariants.{Short}
-use Rattle.term_lift.specs.Runs.{Walks, turns_in, walks_at, turns_at, walks_none, walks_on, walks_less, walks_short, walks_lifted, first-room, first_apart, first_starts, first_walks, first_answers, first_done}
+use mathlib.Core.Path.{◌≡◌}
+use lib.ListN.{length}
+use Rattle.term_lift.specs.Runs.{Walks, turns_in}
 use Rattle.term_lift.proofs.lift.lift.Given as goal
 
 abbrev pub invariant-loop-top : goal.invariant-loop-top

@@ -1,5 +1,4 @@
 -- `passes` meets its contract.
-use borrow.Author.Rules.{rules}
 use Rattle.term_lift.specs.Memo.{dropped_not, dropped_new}
 use Rattle.term_lift.proofs.lift.passes.Goals as goal
 

@@ -1,5 +1,4 @@
 -- `Catalog::find` meets its contract.
-use borrow.Author.Rules.{rules}
 use native.Mathlib.Omega.{arith}
 use Rattle.pack_tables.specs.Region.{Keyed, Finds}
 use Rattle.pack_tables.specs.Catalog.{lent, unlent, lent_inside, sought_in}

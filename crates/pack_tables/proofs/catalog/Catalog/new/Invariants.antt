@@ -1,11 +1,6 @@
 -- `Catalog::new` meets its contract: with each turn one region more is without records.
-use borrow.Author.Rules.{rules}
-use mathlib.Core.Path.{◌≡◌, refl, subst}
-use Prim.Native.Nat.{ℕ, ◌-◌, ◌≤◌, ◌<◌}
-use native.Mathlib.Omega.{arith}
-use lib.ListN.{length}
-use Rattle.pack_tables.specs.Region.{size_for}
-use Rattle.pack_tables.specs.Catalog.{Clearing, clearing_none, clearing_lent, all-cleared, cap_most, lent, lent_inside, length_region}
+use Prim.Native.Nat.{ℕ, ◌-◌, ◌≤◌}
+use Rattle.pack_tables.specs.Catalog.{Clearing}
 use Rattle.pack_tables.specs.declared.catalog.Catalog.{Catalog}
 use Rattle.pack_tables.proofs.catalog.Catalog.new.Given as goal
 

@@ -1,5 +1,4 @@
 -- `Catalog::start` meets its contract.
-use borrow.Author.Rules.{rules}
 use native.Mathlib.Omega.{arith}
 use Rattle.pack_tables.specs.Catalog.{region_inside}
 use Rattle.pack_tables.proofs.catalog.Catalog.start.Goals as goal

@@ -1,5 +1,4 @@
 -- `clear` meets its contract.
-use borrow.Author.Rules.{rules}
 use Rattle.term_lift.specs.Nodes.{cleared}
 use Rattle.term_lift.proofs.lift.Lifted.clear.Goals as goal
 

@@ -1,0 +1,35 @@
+-- `join_premise` meets its contract.
+use borrow.Author.Rules.{rules}
+use mathlib.Core.Path.{refl}
+use Rattle.base.specs.Part.{part}
+use Rattle.class_premises.specs.Joins.{pairs_room, holds, notes-room, joins_noted, joins_on, joins_clash}
+use Rattle.class_premises.proofs.premise.join_premise.Goals as goal
+
+pub unify-requires : goal.unify-requires
+unfolding part
+unify-requires c = let J = c.requires in (holds _ _ _ _ _ _ _ _ J, J.left, J.right, pairs_room _ _ _ _ _ _ _ _ J)
+
+pub note_copies-noted-requires : goal.note_copies-noted-requires
+unfolding part
+note_copies-noted-requires c =
+    let J = c.requires in
+    let U = c.in-Joined.ensures in
+    rw c.copies_at.ensures (notes-room _ _ _ _ _ _ _ _ J _ U.1)
+
+pub returns-in-Joined : goal.returns-in-Joined
+unfolding part
+returns-in-Joined c =
+    let J = c.requires in
+    let U = c.in-Joined.ensures in
+    let N = rw c.copies_at.ensures at c.note_copies-noted.ensures in
+    (refl, refl, refl, refl, joins_noted _ _ _ _ _ _ _ _ J _ U.1 _ _ N, joins_on _ _ _ _ _ _ _ _ J _ U.1 _ _ N _ U)
+
+pub shape_of-work-in-Clash : goal.shape_of-work-in-Clash
+shape_of-work-in-Clash c = search
+
+pub returns-in-Clash : goal.returns-in-Clash
+unfolding part
+returns-in-Clash c =
+    let a = c.args in
+    let U = c.in-Clash.ensures in
+    (refl, joins_clash a.work.now a.cells.now a.l _ _ _ _ _ U)
