@@ -1,12 +1,13 @@
 // Lists the records of a pack that it reads: offset, kind and body length, a line for each.
 #![tactic(auto)]
 
-ghost use Rattle.std.specs.Prelude.{◌≡◌, ◌≤◌, length, replicate};
+ghost use Rattle.std.specs.Prelude.{◌≡◌, ◌≤◌, length, replicate, IfOk};
 ghost use Rattle.buffer.specs.Text.{Wrote, write};
 ghost use Rattle.list_records.specs.Lines.{record_at, field, line, cut_line, lines};
 ghost use Rattle.list_records.specs.Added.{Added};
 
 use buffer::decimal::Put;
+use std::io::{self, Read, Write};
 
 // A record of a pack: cut, or whole with its kind and the length of its body.
 #[derive(Clone, Copy)]
@@ -119,21 +120,33 @@ pub fn list(pack: &[u8], text: &mut [u8]) -> Put
     Put::End(end)
 }
 
-fn main() {
-    let mut pack = io::large_buffer();
-    let n = io::read_full(0, &mut pack);
-    if pack.len() < n {
-        io::write_all(1, b"too long\n");
-        return;
+// Reads to the end of the input, or until the buffer is full; answers how many bytes were read.
+fn read_full<R: Read>(reader: &mut R, buf: &mut [u8]) -> io::Result<usize>
+    ensures { IfOk result (λ n. n ≤ length buf.new) }
+{
+    let mut done = 0;
+    for _ in 0..u64::MAX {
+        if done == buf.len() {
+            break;
+        }
+        let n = reader.read(&mut buf[done..])?;
+        if n == 0 {
+            break;
+        }
+        done += n;
     }
-    let mut text = io::large_buffer();
-    let put = list(&pack[..n], &mut text);
-    match put {
-        Put::End(end) => {
-            io::write_all(1, &text[..end]);
-        }
-        Put::Short => {
-            io::write_all(1, b"no room\n");
-        }
+    Ok(done)
+}
+
+fn main(rt: HostRuntime) -> io::Result<()> {
+    let mut pack = [0u8; 65536];
+    let n = read_full(&mut rt.stdin(), &mut pack)?;
+    if pack.len() < n {
+        return rt.stdout().write_all(b"too long\n");
+    }
+    let mut text = [0u8; 65536];
+    match list(&pack[..n], &mut text) {
+        Put::End(end) => rt.stdout().write_all(&text[..end]),
+        Put::Short => rt.stdout().write_all(b"no room\n"),
     }
 }

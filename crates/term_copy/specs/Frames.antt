@@ -1,9 +1,9 @@
 -- What the functions of the walk ask of each other and answer.
 use Rattle.std.specs.Prelude.{◌≡◌, Bool, List, ℕ, suc, ◌+◌, ◌<◌, ltb, length, get_or, set}
-use Rattle.std.proofs.Math.Option.{none, some}
+use Rattle.std.proofs.Math.Option.{none}
 use Rattle.definition.specs.Store.{below}
 use Rattle.definition.specs.Graph.{cells}
-use Rattle.definition.specs.Analysis.{copied, Copy}
+use Rattle.definition.specs.Analysis.{Copy}
 use Rattle.theory.specs.Copies.Parts.{kids_in}
 use Rattle.theory.specs.Walks.Machine.{Walking, turn, left}
 use Rattle.theory.specs.Walks.CopyWalk.{is_copied, copy_at}

@@ -3,7 +3,6 @@ use Rattle.std.specs.Prelude.{◌≡◌, refl, Bool, true, false, ℕ, suc, ◌+
 use Rattle.std.proofs.Common.{sym, ◌∙◌, subst, add-one, arith, ltb-true, ltb-false}
 use Rattle.std.proofs.Math.Path.{ap}
 use mathlib.Core.List.{List, ◌∷◌}
-use Rattle.std.proofs.Math.Option.{some}
 use Rattle.std.proofs.Math.ListN.{length}
 use Rattle.definition.specs.Test.{is, see, ◌and◌}
 use Rattle.definition.specs.Pack.{Node, no_node}

@@ -1,7 +1,6 @@
 -- `drop_hyps` meets its contract: with each turn one key more is taken away.
-use borrow.Author.Rules.{rules}
 use mathlib.Core.Path.{sym, subst}
-use Prim.Native.Nat.{ℕ, ◌+◌, ◌-◌}
+use Prim.Native.Nat.{ℕ, ◌+◌}
 use native.Mathlib.Omega.{arith}
 use lib.ListN.{set}
 use Rattle.emit_maps.specs.Dropping.{Dropping, dropping_none, dropping_more, dropping_all}

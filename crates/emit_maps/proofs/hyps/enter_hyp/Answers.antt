@@ -1,5 +1,4 @@
 -- `enter_hyp` meets its contract.
-use borrow.Author.Rules.{rules}
 use mathlib.Core.Path.{sym, subst}
 use Prim.Native.Nat.{ℕ, ◌+◌}
 use lib.ListN.{set}

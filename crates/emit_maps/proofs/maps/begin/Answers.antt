@@ -1,5 +1,4 @@
 -- `begin` meets its contract.
-use borrow.Author.Rules.{rules}
 use Rattle.emit_maps.specs.Asking.{begun}
 use Rattle.emit_maps.proofs.maps.begin.Goals as goal
 

@@ -1,5 +1,4 @@
 -- `place` meets its contract.
-use borrow.Author.Rules.{rules}
 use native.Mathlib.Omega.{arith}
 use Rattle.emit_maps.specs.Map.{word-within}
 use Rattle.emit_maps.proofs.maps.place.Goals as goal

@@ -1,5 +1,4 @@
 -- `mark` meets its contract.
-use borrow.Author.Rules.{rules}
 use mathlib.Core.Path.{refl}
 use native.Mathlib.Omega.{arith}
 use Rattle.emit_maps.specs.Trail.{marks-room, fresh, again}

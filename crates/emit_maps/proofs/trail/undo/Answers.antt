@@ -1,8 +1,7 @@
 -- `undo` meets its contract: with each turn one entry more is taken back.
-use borrow.Author.Rules.{rules}
 use Prim.Native.Nat.{◌-◌}
 use native.Mathlib.Omega.{arith}
-use Rattle.emit_maps.specs.Undoing.{Undoing, undoing_none, undoing_next, undoing_more, undoing_all}
+use Rattle.emit_maps.specs.Undoing.{undoing_none, undoing_next, undoing_more, undoing_all}
 use Rattle.emit_maps.proofs.trail.undo.Goals as goal
 
 pub loop-i-init : goal.loop-i-init

@@ -1,8 +1,5 @@
 -- `undo` meets its contract: with each turn one entry more is taken back.
-use borrow.Author.Rules.{rules}
-use Prim.Native.Nat.{◌-◌}
-use native.Mathlib.Omega.{arith}
-use Rattle.emit_maps.specs.Undoing.{Undoing, undoing_none, undoing_next, undoing_more, undoing_all}
+use Rattle.emit_maps.specs.Undoing.{Undoing}
 use Rattle.emit_maps.proofs.trail.undo.Given as goal
 
 abbrev pub invariant-loop-i : goal.invariant-loop-i

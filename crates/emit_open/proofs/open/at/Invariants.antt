@@ -1,9 +1,8 @@
 -- `at` meets its contract: with each turn a node that waits is taken, and less is left.
-use borrow.Author.Rules.{rules}
 use Prim.Native.Nat.{ℕ, ◌+◌}
 use mathlib.Core.List.{List}
 use Rattle.emit_open.specs.Held.{unmet}
-use Rattle.emit_open.specs.Opens.{Going, going_inside, going_ready, going_on, going_fewer, going_done, clean-placed, first_meetable, first_going}
+use Rattle.emit_open.specs.Opens.{Going}
 use Rattle.emit_open.proofs.open.at.Given as goal
 
 abbrev pub invariant-loop-q : goal.invariant-loop-q

@@ -1,5 +1,4 @@
 -- `meet` meets its contract.
-use borrow.Author.Rules.{rules}
 use Rattle.emit_open.specs.Meets.{meets-known, meets-room, meets-new}
 use Rattle.emit_open.proofs.open.meet.Goals as goal
 

@@ -1,8 +1,6 @@
 -- `meet_arguments` meets its contract: with each turn one argument more is met.
-use borrow.Author.Rules.{rules}
 use native.Mathlib.Omega.{arith}
-use Prim.Native.Nat.{◌≤◌, ◌-◌}
-use Rattle.emit_open.specs.Meets.{Meeting, meeting_none, meeting_given, meeting_meetable, meeting_more, meeting_all}
+use Rattle.emit_open.specs.Meets.{meeting_none, meeting_given, meeting_meetable, meeting_more, meeting_all}
 use Rattle.emit_open.proofs.open.meet_arguments.Goals as goal
 
 pub loop-j-init : goal.loop-j-init

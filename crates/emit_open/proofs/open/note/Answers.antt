@@ -1,5 +1,4 @@
 -- `note` meets its contract.
-use borrow.Author.Rules.{rules}
 use native.Mathlib.Omega.{arith}
 use Rattle.emit_open.specs.Notes.{notes-other, notes_short, notes_there, notes-node, notes-applied, notes_number, notes_inside, notes-marked}
 use Rattle.emit_open.proofs.open.note.Goals as goal

@@ -1,5 +1,4 @@
 -- `take` meets its contract.
-use borrow.Author.Rules.{rules}
 use Rattle.emit_open.specs.Takes.{ready_node, takes-variable, takes_notable, takes-given, takes_taking, takes_all}
 use Rattle.emit_open.proofs.open.take.Goals as goal
 

@@ -1,5 +1,4 @@
 -- `advance` meets its contract.
-use borrow.Author.Rules.{rules}
 use Rattle.term_copy.specs.Ways.{ready_inside, ready_given, ready_known, ready_look, ready_deeper, ready_ripe, advance_passed, advance_entered, advance_copied, advance_short}
 use Rattle.base.specs.Part.{part}
 use native.Mathlib.Omega.{arith}

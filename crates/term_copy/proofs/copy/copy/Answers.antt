@@ -1,5 +1,4 @@
 -- `copy` meets its contract.
-use borrow.Author.Rules.{rules}
 use mathlib.Core.Path.{◌∙◌}
 use Rattle.term_copy.specs.Whole.{first_ready, end-table, end_inside, end_known, copies_at, copies_short}
 use Rattle.term_copy.proofs.copy.copy.Goals as goal

@@ -1,5 +1,4 @@
 -- `deepen` meets its contract.
-use borrow.Author.Rules.{rules}
 use lib.ListN.{length-set}
 use native.Mathlib.Omega.{arith}
 use Rattle.term_copy.proofs.copy.deepen.Goals as goal

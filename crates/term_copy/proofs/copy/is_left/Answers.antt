@@ -1,5 +1,4 @@
 -- `is_left` meets its contract.
-use borrow.Author.Rules.{rules}
 use borrow.Author.Tests.{le-ltb}
 use mathlib.Core.Path.{sym, ap}
 use Prim.Native.Nat.{◌+◌}

@@ -1,5 +1,4 @@
 -- `passes` meets its contract.
-use borrow.Author.Rules.{rules}
 use Rattle.base.specs.Part.{part}
 use Rattle.term_copy.specs.Passes.{passes-not, passes_some, passes_none}
 use Prim.Native.Nat.{◌+◌}

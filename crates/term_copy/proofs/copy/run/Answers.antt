@@ -1,8 +1,7 @@
 -- `run` meets its contract.
-use borrow.Author.Rules.{rules}
 use Prim.Native.Nat.{◌-◌}
 use mathlib.Core.Path.{◌∙◌}
-use Rattle.term_copy.specs.Runs.{turns_most, Loops, loops_first, loops_at, loops_ready, loops_done, loops_on, loops_fewer, loops_short}
+use Rattle.term_copy.specs.Runs.{loops_first, loops_at, loops_ready, loops_done, loops_on, loops_fewer, loops_short}
 use native.Mathlib.Omega.{arith}
 use Rattle.term_copy.proofs.copy.run.Goals as goal
 

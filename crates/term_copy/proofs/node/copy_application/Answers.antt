@@ -1,5 +1,4 @@
 -- `copy_application` meets its contract.
-use borrow.Author.Rules.{rules}
 use borrow.Author.Tests.{leb-true, leb-false}
 use mathlib.Core.Path.{sym, ◌∙◌}
 use mathlib.Core.List.{map}

@@ -1,5 +1,4 @@
 -- `copy_node` meets its contract.
-use borrow.Author.Rules.{rules}
 use native.Mathlib.Omega.{arith}
 use Rattle.term_copy.specs.Nodes.{note_small, note-fits, table_kept, copied_short, copied-made}
 use Rattle.memo.specs.Recall.{recall, Remembers}

@@ -1,5 +1,4 @@
 -- `copy_of` meets its contract.
-use borrow.Author.Rules.{rules}
 use native.Mathlib.Omega.{arith}
 use Rattle.base.specs.Part.{part}
 use Rattle.term_copy.specs.Writes.{copy-value, copy-none}

@@ -1,5 +1,4 @@
 -- `copy_variable` meets its contract.
-use borrow.Author.Rules.{rules}
 use Rattle.term_copy.specs.Nodes.{variable-made}
 use Rattle.base.specs.Part.{part}
 use Rattle.term_copy.proofs.node.copy_variable.Goals as goal

@@ -2,11 +2,9 @@
 use borrow.Author.Rules.{rules}
 use Rattle.term_copy.specs.Writes.{gather_more, gather_all, argument_below}
 use Rattle.term_copy.specs.Places.{copy_in}
-use Prim.Native.Nat.{◌≤◌, ◌-◌}
-use lib.ListN.{length, take, drop, length-set}
-use mathlib.Core.List.{map}
+use lib.ListN.{length-set}
 use native.Mathlib.Omega.{arith}
-use mathlib.Core.Path.{◌≡◌, refl, ◌∙◌}
+use mathlib.Core.Path.{refl, ◌∙◌}
 use Rattle.term_copy.proofs.node.gather.Goals as goal
 
 pub loop-i-init : goal.loop-i-init

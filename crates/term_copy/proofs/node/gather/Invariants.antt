@@ -1,12 +1,9 @@
 -- `gather` meets its contract.
-use borrow.Author.Rules.{rules}
-use Rattle.term_copy.specs.Writes.{gather_more, gather_all, argument_below}
 use Rattle.term_copy.specs.Places.{copy_in}
 use Prim.Native.Nat.{◌≤◌, ◌-◌}
-use lib.ListN.{length, take, drop, length-set}
+use lib.ListN.{length, take, drop}
 use mathlib.Core.List.{map}
-use native.Mathlib.Omega.{arith}
-use mathlib.Core.Path.{◌≡◌, refl, ◌∙◌}
+use mathlib.Core.Path.{◌≡◌}
 use Rattle.term_copy.proofs.node.gather.Given as goal
 
 abbrev pub invariant-loop-i : goal.invariant-loop-i

@@ -1,5 +1,4 @@
 -- `note` meets its contract.
-use borrow.Author.Rules.{rules}
 use Rattle.term_copy.specs.Writes.{note-set, note-none, notes-variable, notes-other}
 use lib.ListN.{get_or}
 use Rattle.base.specs.Outside.{outside_none}

@@ -1,11 +1,9 @@
 -- `count_up` meets its contract.
 use mathlib.Core.Path.{◌≡◌, refl, ◌∙◌}
-use Prim.Native.Nat.{◌-◌, ◌≤◌}
 use native.Mathlib.Omega.{arith}
-use lib.ListN.{length, take, length-set}
+use lib.ListN.{length-set}
 use Rattle.definition.specs.Graph.{up_to}
 use Rattle.term_instantiate.specs.Count.{up_more}
-use borrow.Author.Rules.{rules}
 use Rattle.term_instantiate.proofs.count.count_up.Goals as goal
 
 pub loop-i-init : goal.loop-i-init

@@ -1,11 +1,8 @@
 -- `count_up` meets its contract.
-use mathlib.Core.Path.{◌≡◌, refl, ◌∙◌}
+use mathlib.Core.Path.{◌≡◌}
 use Prim.Native.Nat.{◌-◌, ◌≤◌}
-use native.Mathlib.Omega.{arith}
-use lib.ListN.{length, take, length-set}
+use lib.ListN.{length, take}
 use Rattle.definition.specs.Graph.{up_to}
-use Rattle.term_instantiate.specs.Count.{up_more}
-use borrow.Author.Rules.{rules}
 use Rattle.term_instantiate.proofs.count.count_up.Given as goal
 
 abbrev pub invariant-loop-i : goal.invariant-loop-i

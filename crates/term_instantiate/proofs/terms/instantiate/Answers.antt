@@ -1,9 +1,7 @@
 -- `instantiate` meets its contract: with each word the terms from there on stand in the graph.
-use borrow.Author.Rules.{rules}
 use mathlib.Core.Path.{refl, ◌∙◌}
-use Prim.Native.Nat.{◌-◌}
 use native.Mathlib.Omega.{arith}
-use Rattle.term_instantiate.specs.Going.{Going, going_first, going_taking, going_on, going_full, going_top, going_done}
+use Rattle.term_instantiate.specs.Going.{going_first, going_taking, going_on, going_full, going_top, going_done}
 use Rattle.term_instantiate.proofs.terms.instantiate.Goals as goal
 
 pub loop-i-init : goal.loop-i-init

@@ -1,5 +1,4 @@
 -- `take_word` meets its contract.
-use borrow.Author.Rules.{rules}
 use native.Mathlib.Omega.{arith}
 use Rattle.base.specs.Outside.{outside_none}
 use Rattle.base.specs.Part.{part}

@@ -1,10 +1,8 @@
 -- `open_variables` meets its contract: with each turn one variable more is there.
-use borrow.Author.Rules.{rules}
-use Prim.Native.Nat.{◌-◌}
 use native.Mathlib.Omega.{arith}
 use Rattle.base.specs.Part.{part}
 use Rattle.pack_read.specs.Held.{readable}
-use Rattle.term_instantiate.specs.Variables.{First, table_long, first-none, first-held, first_reads, first_more, first-full, first-all, none-held, none-room, none_shows, opens_on, opens_full}
+use Rattle.term_instantiate.specs.Variables.{table_long, first-none, first-held, first_reads, first_more, first-full, first-all, none-held, none-room, none_shows, opens_on, opens_full}
 use Rattle.term_instantiate.proofs.variables.open_variables.Goals as goal
 
 pub slice_bounds-new-start : goal.slice_bounds-new-start

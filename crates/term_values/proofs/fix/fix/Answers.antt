@@ -1,11 +1,7 @@
 -- `fix` meets its contract: with each turn what is left of the definition gives the whole, and less is left.
-use borrow.Author.Rules.{rules}
 use native.Mathlib.Omega.{arith}
 use mathlib.Core.Path.{◌≡◌}
-use Prim.Native.Nat.{◌+◌}
-use Rattle.term_values.specs.Words.{table_in}
-use Rattle.term_values.specs.Turns.{left_in_lent}
-use Rattle.term_values.specs.Fixes.{Going, going_none, going_at, going_ready, going_on, going_less, first_ready, fixes_done, fixes_differs}
+use Rattle.term_values.specs.Fixes.{going_none, going_at, going_ready, going_on, going_less, first_ready, fixes_done, fixes_differs}
 use Rattle.term_values.proofs.fix.fix.Goals as goal
 
 pub put_pair-requires : goal.put_pair-requires

@@ -1,5 +1,4 @@
 -- `give` meets its contract.
-use borrow.Author.Rules.{rules}
 use Rattle.pack_read.specs.Held.{readable}
 use Rattle.term_values.specs.Gives.{fresh_inside, fresh_small, gives_variable, gives_unlike, gives_longer, gives_pushable, gives_arguments}
 use Rattle.term_values.proofs.fix.give.Goals as goal

@@ -1,5 +1,4 @@
 -- `take_value` meets its contract.
-use borrow.Author.Rules.{rules}
 use native.Mathlib.Omega.{arith}
 use Rattle.term_values.specs.Takes.{ready_low, ready_left, ready_right, ready_node, found_placed, found_inside, takes-known, takes-other, takes-fresh, takes-given}
 use Rattle.term_values.proofs.fix.take_value.Goals as goal

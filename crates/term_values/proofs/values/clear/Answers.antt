@@ -1,5 +1,4 @@
 -- `clear` meets its contract.
-use borrow.Author.Rules.{rules}
 use native.Mathlib.Omega.{arith}
 use Rattle.term_values.specs.Stores.{clear_few, clears}
 use Rattle.term_values.proofs.values.clear.Goals as goal

@@ -1,5 +1,4 @@
 -- `put_pair` meets its contract.
-use borrow.Author.Rules.{rules}
 use native.Mathlib.Omega.{arith}
 use lib.ListN.{length-set}
 use Rattle.term_values.specs.Stores.{puts_pair}

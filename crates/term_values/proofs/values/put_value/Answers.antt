@@ -1,5 +1,4 @@
 -- `put_value` meets its contract.
-use borrow.Author.Rules.{rules}
 use Rattle.term_values.specs.Stores.{puts_value}
 use Rattle.term_values.proofs.values.put_value.Goals as goal
 

@@ -1,5 +1,4 @@
 -- `root` meets its contract.
-use borrow.Author.Rules.{rules}
 use Rattle.term_values.specs.Stores.{finds_root}
 use Rattle.term_values.proofs.values.root.Goals as goal
 

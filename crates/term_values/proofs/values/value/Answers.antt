@@ -1,5 +1,4 @@
 -- `value` meets its contract.
-use borrow.Author.Rules.{rules}
 use Rattle.term_values.specs.Stores.{value_none, value_some}
 use Rattle.term_values.proofs.values.value.Goals as goal
 

@@ -1,0 +1,10 @@
+-- `prepare` meets its contract.
+use borrow.Author.Rules.{rules}
+use Rattle.class_conclude.specs.Top.{prepares}
+use Rattle.class_conclude.proofs.top.prepare.Goals as goal
+
+pub returns : goal.returns
+returns c =
+    let a = c.args in
+    let p = c.requires in
+    prepares a.work.now a.cells.now a.l a.before a.g p.0 p.1 p.2 p.3 c.zero_words.new.words (rw c.values_at.ensures at c.zero_words.ensures) _ (rw c.values_at.ensures at c.clear.ensures)

@@ -1,0 +1,12 @@
+-- `put_flexes` meets its contract.
+use borrow.Author.Rules.{rules}
+use Prim.Native.Nat.{◌-◌}
+use native.Mathlib.Omega.{arith}
+use Rattle.class_rule.specs.Marks.{Marked, marked-none, marking_there, marking_asked, marking_small, marked_more, marked_all}
+use Rattle.class_rule.proofs.row.put_flexes.Given as goal
+
+abbrev pub invariant-loop-j : goal.invariant-loop-j
+invariant-loop-j l = Marked l.work l.initial.class l.class l.cells l.l l.g l.at l.n l.j l.flex
+
+abbrev pub decreases-loop-j : goal.decreases-loop-j
+decreases-loop-j l = l.n - l.j

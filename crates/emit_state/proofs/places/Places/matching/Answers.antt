@@ -1,0 +1,6 @@
+-- `matching` meets its contract.
+use borrow.Author.Rules.{rules}
+use Rattle.emit_state.proofs.places.Places.matching.Goals as goal
+
+pub returns : goal.returns
+returns c = rw (c.index_end-end.ensures, c.values-values.ensures, c.pending-stack.ensures)
