@@ -274,8 +274,7 @@ fn walk_copies(
 
 // Each node in `from` is interned in order, pattern `p` of them is copied `copies` times into one graph, and the last copy is read back
 // unless `read` is 0.
-#[unsafe(no_mangle)]
-pub extern "C" fn copy_pattern(
+pub fn copy_pattern(
     pack: &[u8],
     from: &[u32],
     flex: &[u32],

@@ -1,11 +1,11 @@
 -- What is left to be written of a shown term, by the frames of a walk over it.
 use Rattle.std.specs.Prelude.{◌≡◌, refl, true, false, eqb, get_or, drop}
 use Rattle.std.proofs.Math.Path.{sym, ap, ap₂}
-use Rattle.std.proofs.Common.{◌∙◌, subst, arith, drop_of_length-le, length-append, drop-cons}
+use Rattle.std.proofs.Common.{◌∙◌, arith, drop_of_length-le, length-append, drop-cons}
 use mathlib.Core.List.{List, [], ◌∷◌, ◌++◌, append_assoc, append-nil}
-use Prim.Native.Nat.{ℕ, zero, suc, ◌+◌, ◌≤◌, ◌<◌}
+use Prim.Native.Nat.{ℕ, suc, ◌≤◌, ◌<◌}
 use Rattle.std.proofs.Math.ListN.{length}
-use Rattle.definition.specs.Pack.{prop, Term, Terms, var, app, nil, cons, Node, Pack, no_node, symbol_of}
+use Rattle.definition.specs.Pack.{prop, Term, Terms, var, app, nil, Node, Pack, no_node, symbol_of}
 use Rattle.definition.specs.Store.{is_variable, term_of}
 use Rattle.definition.specs.Shown.{Text, ellipsis, headed, show, show_all, variable_name}
 use Rattle.definition.specs.Graph.{Pair}

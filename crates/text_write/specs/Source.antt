@@ -9,7 +9,7 @@ use Rattle.std.proofs.Math.ListN.{length}
 use Rattle.definition.specs.Test.{is, see, never}
 use Rattle.definition.specs.Pack.{Node, Pack, most_arity, no_node, no_such_symbol, node_of, symbol_of}
 use Rattle.definition.specs.Good.{Below, Good, Few}
-use Rattle.definition.specs.Store.{variable_head, is_variable, below}
+use Rattle.definition.specs.Store.{variable_head, is_variable}
 use Rattle.definition.proofs.Laws.Tree.{args-below}
 use Rattle.theory.specs.Copies.Terms.{Earlier, below-applied}
 use Rattle.theory.specs.Making.Lifts.{ground_few}
@@ -17,7 +17,6 @@ use Rattle.base.specs.Part.{part, part_same}
 use Rattle.base.specs.Upto.{Upto}
 use Rattle.memo.specs.Lent.{lent}
 use Rattle.store.specs.Stored.{Stored, nodes}
-use Rattle.store.specs.declared.nodes.Store.{Store}
 use Rattle.pack_tables.specs.Catalog.{records_of}
 use Rattle.pack_tables.specs.SameTables.{end_of, Same, same-records}
 use Rattle.pack_tables.specs.declared.catalog.Catalog.{Catalog}

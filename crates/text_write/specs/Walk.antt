@@ -8,7 +8,7 @@ use native.Mathlib.Omega.{arith}
 use Rattle.definition.specs.Pack.{Node, Pack, most_arity, no_node}
 use Rattle.definition.specs.Graph.{Pair}
 use Rattle.definition.specs.Good.{Below}
-use Rattle.definition.specs.Store.{nothing, is_variable, below, term_of}
+use Rattle.definition.specs.Store.{nothing, is_variable, term_of}
 use Rattle.definition.specs.Shown.{show, variable_name}
 use Rattle.base.specs.Upto.{Upto, upto_none, upto_then, upto_outside}
 use Rattle.base.specs.Outside.{outside_set, outside_then}
@@ -16,11 +16,10 @@ use Rattle.base.specs.Pairs.{pair, pairs_in, length-pairs_in, pairs_more, pairs_
 use Rattle.pack_tables.specs.Catalog.{records_of}
 use Rattle.pack_tables.specs.SameTables.{end_of}
 use Rattle.pack_read.specs.Reads.{Reads}
-use Rattle.pack_read.specs.Held.{Proper}
-use Rattle.theory.specs.Copies.Terms.{Earlier, below-applied}
+use Rattle.theory.specs.Copies.Terms.{below-applied}
 use Rattle.text_write.specs.Written.{Adds, adds_none, adds_then, adds_as, adds-over, nowhere}
 use Rattle.text_write.specs.Source.{nodes_of, node_in, many_in, Sourced, OfSource, source_on, source_reads, source_back, source_many, many-nodes, source_earlier, source_few}
-use Rattle.text_write.specs.Left.{arguments_of, left_of, shown_then, shown_alone, left_some, left_close, left-next, shown_spent}
+use Rattle.text_write.specs.Left.{left_of, shown_then, shown_alone, left_some, left_close, left-next, shown_spent}
 use Rattle.text_write.specs.Nodes.{WritesNode}
 use Rattle.text_write.specs.declared.source.Source.{Source}
 use Rattle.text_write.specs.declared.term.Point.{Point}

@@ -1,6 +1,6 @@
 -- A text in a lent buffer, written from its front on.
 use Rattle.std.specs.Prelude.{◌≡◌, refl, List, [], ◌∷◌, ◌++◌, ℕ, suc, ◌+◌, ◌/◌, ◌%◌, ◌≤◌, ◌<◌, length, get_or, take, set}
-use Rattle.std.proofs.Common.{sym, ap, ap₂, ◌∙◌, subst, append_assoc, append-nil, arith, length-append, take-suc}
+use Rattle.std.proofs.Common.{sym, ap, ◌∙◌, subst, append_assoc, append-nil, arith, length-append, take-suc}
 use Rattle.std.proofs.Math.Decide.{dec_le, dec_lt}
 use Rattle.definition.specs.Decimal.{decimal, decimal_few, decimal-more}
 use Rattle.buffer.specs.Text.{Wrote, write, over, take-over, length_over, over-one, wrote_end, wrote_short}

@@ -1,5 +1,4 @@
 -- `bind` meets its contract.
-use borrow.Author.Rules.{rules}
 use Rattle.term_instance.specs.Binds.{binds_known, binds_new}
 use Rattle.term_instance.proofs.instance.bind.Goals as goal
 

@@ -1,5 +1,4 @@
 -- `descend` meets its contract.
-use borrow.Author.Rules.{rules}
 use Rattle.pack_read.specs.Held.{readable}
 use Rattle.term_instance.specs.Meets.{seen_placed, descends_unlike, descends_longer, descends_pushable, descends_on}
 use Rattle.term_instance.proofs.instance.descend.Goals as goal

@@ -1,9 +1,7 @@
 -- `instance` meets its contract: with each turn what is left gives the whole, and less is left.
-use borrow.Author.Rules.{rules}
 use native.Mathlib.Omega.{arith}
 use mathlib.Core.Path.{◌≡◌}
-use Prim.Native.Nat.{◌+◌}
-use Rattle.term_instance.specs.Matches.{left_in_lent, Going, going_none, going_at, going_ready, going_on, going_less}
+use Rattle.term_instance.specs.Matches.{going_none, going_at, going_ready, going_on, going_less}
 use Rattle.term_instance.specs.Begins.{second-placed, first-room, first_ready, first_stays, matches_done, matches_differs}
 use Rattle.term_instance.proofs.instance.instance.Goals as goal
 

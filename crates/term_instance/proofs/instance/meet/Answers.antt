@@ -1,5 +1,4 @@
 -- `meet` meets its contract.
-use borrow.Author.Rules.{rules}
 use Rattle.term_instance.specs.Meets.{seen_placed, meets-same, meets-other, meets-bare}
 use Rattle.term_instance.proofs.instance.meet.Goals as goal
 

@@ -1,7 +1,5 @@
 -- `push_arguments` meets its contract: with each turn one pair more stands on the worklist, and those left give the whole.
-use borrow.Author.Rules.{rules}
-use native.Mathlib.Omega.{arith}
-use Rattle.term_instance.specs.Pushes.{Pushing, pushing_none, pushing_stored, pushing_readable, pushing_ground, pushing_argument, pushing_beside, pushing_room, pushing_more, pushing_all}
+use Rattle.term_instance.specs.Pushes.{Pushing}
 use Rattle.term_instance.proofs.instance.push_arguments.Given as goal
 
 abbrev pub invariant-loop-i : goal.invariant-loop-i

@@ -1,5 +1,4 @@
 -- `take_pair` meets its contract.
-use borrow.Author.Rules.{rules}
 use native.Mathlib.Omega.{arith}
 use Rattle.term_instance.specs.Takes.{ready_inside, ready_pattern, ready_variable, ready_applied, ready_number, ready_bindable, takes-bound, takes_unbound}
 use Rattle.term_instance.proofs.instance.take_pair.Goals as goal

@@ -1,5 +1,4 @@
 -- `is_bare` meets its contract.
-use borrow.Author.Rules.{rules}
 use Rattle.pack_read.specs.Held.{readable}
 use Rattle.text_write.specs.Source.{nodes_of}
 use Rattle.text_write.specs.Nodes.{bare-over, bare-none}

@@ -1,5 +1,4 @@
 -- `write_applied` meets its contract.
-use borrow.Author.Rules.{rules}
 use mathlib.Core.Path.{sym, ◌∙◌}
 use Rattle.pack_read.specs.Held.{readable}
 use Rattle.text_write.specs.Written.{adds_then}

@@ -1,5 +1,4 @@
 -- `write_node` meets its contract.
-use borrow.Author.Rules.{rules}
 use Rattle.text_write.specs.Nodes.{variable_number, variable-written}
 use Rattle.text_write.proofs.node.write_node.Goals as goal
 

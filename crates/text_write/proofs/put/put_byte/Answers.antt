@@ -1,5 +1,4 @@
 -- `put_byte` meets its contract.
-use borrow.Author.Rules.{rules}
 use mathlib.Core.Path.{refl}
 use native.Mathlib.Omega.{arith}
 use Rattle.text_write.specs.Written.{adds_byte, adds_short}

@@ -1,12 +1,10 @@
 -- `put_bytes` meets its contract: the bytes taken so far are added.
 use borrow.Author.Rules.{rules}
-use mathlib.Core.Path.{◌≡◌, refl, sym, ap, ◌∙◌}
-use mathlib.Core.List.{List, [], ◌∷◌, ◌++◌}
-use Prim.Native.Nat.{ℕ, suc, ◌+◌, ◌-◌, ◌≤◌}
+use mathlib.Core.Path.{refl}
 use native.Mathlib.Omega.{arith}
-use lib.ListN.{length, get_or, take}
+use lib.ListN.{take}
 use lib.Seq.{take_all}
-use Rattle.text_write.specs.Written.{Adds, adds_none, adds_then, adds_as, take_next}
+use Rattle.text_write.specs.Written.{adds_none, adds_then, adds_as, take_next}
 use Rattle.text_write.proofs.put.put_bytes.Goals as goal
 
 pub loop-i-init : goal.loop-i-init

@@ -1,5 +1,4 @@
 -- `put_ellipsis` meets its contract.
-use borrow.Author.Rules.{rules}
 use Rattle.text_write.specs.Written.{adds_then}
 use Rattle.text_write.proofs.put.put_ellipsis.Goals as goal
 

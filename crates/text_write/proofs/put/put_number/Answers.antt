@@ -1,5 +1,4 @@
 -- `put_number` meets its contract.
-use borrow.Author.Rules.{rules}
 use native.Mathlib.Omega.{arith}
 use Rattle.text_write.specs.Written.{adds-end, adds-none-left, decimal_some}
 use Rattle.text_write.proofs.put.put_number.Goals as goal

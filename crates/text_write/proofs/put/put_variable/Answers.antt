@@ -1,5 +1,4 @@
 -- `put_variable` meets its contract.
-use borrow.Author.Rules.{rules}
 use Rattle.definition.specs.Shown.{variable_name}
 use Rattle.text_write.specs.Written.{adds_then}
 use Rattle.text_write.proofs.put.put_variable.Goals as goal

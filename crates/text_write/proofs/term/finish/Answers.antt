@@ -1,10 +1,7 @@
 -- `finish` meets its contract: with each turn what is written and what is left are what was left at first.
-use borrow.Author.Rules.{rules}
-use mathlib.Core.Path.{◌≡◌, refl, ◌∙◌}
-use Prim.Native.Nat.{◌-◌}
+use mathlib.Core.Path.{refl, ◌∙◌}
 use native.Mathlib.Omega.{arith}
-use lib.ListN.{length}
-use Rattle.text_write.specs.Walk.{Runs, runs_none, runs_turning, runs_on, runs_end, runs_full}
+use Rattle.text_write.specs.Walk.{runs_none, runs_turning, runs_on, runs_end, runs_full}
 use Rattle.text_write.proofs.term.finish.Goals as goal
 
 pub loop-p-init : goal.loop-p-init

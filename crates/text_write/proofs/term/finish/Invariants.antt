@@ -1,10 +1,8 @@
 -- `finish` meets its contract: with each turn what is written and what is left are what was left at first.
-use borrow.Author.Rules.{rules}
-use mathlib.Core.Path.{◌≡◌, refl, ◌∙◌}
+use mathlib.Core.Path.{◌≡◌}
 use Prim.Native.Nat.{◌-◌}
-use native.Mathlib.Omega.{arith}
 use lib.ListN.{length}
-use Rattle.text_write.specs.Walk.{Runs, runs_none, runs_turning, runs_on, runs_end, runs_full}
+use Rattle.text_write.specs.Walk.{Runs}
 use Rattle.text_write.proofs.term.finish.Given as goal
 
 abbrev pub invariant-loop-p : goal.invariant-loop-p

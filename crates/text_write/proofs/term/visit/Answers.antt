@@ -1,6 +1,5 @@
 -- `visit` meets its contract.
-use borrow.Author.Rules.{rules}
-use mathlib.Core.Path.{◌≡◌, refl}
+use mathlib.Core.Path.{◌≡◌}
 use Prim.Native.Nat.{suc, ◌-◌}
 use native.Mathlib.Omega.{arith}
 use Rattle.text_write.specs.Walk.{visit-room, visit_spent, visit-whole, visit_open}

@@ -1,5 +1,4 @@
 -- `write_term` meets its contract.
-use borrow.Author.Rules.{rules}
 use Rattle.text_write.specs.Walk.{writes_visits, writes_finishing, writes_all}
 use Rattle.text_write.proofs.term.write_term.Goals as goal
 

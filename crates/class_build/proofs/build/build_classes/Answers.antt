@@ -1,0 +1,19 @@
+-- `build_classes` meets its contract.
+use borrow.Author.Rules.{rules}
+use Rattle.class_build.specs.Goes.{classes_short, count_there, classes_begin, classes_on}
+use Rattle.class_build.proofs.build.build_classes.Goals as goal
+
+pub count-fill-requires : goal.count-fill-requires
+count-fill-requires c = let m = c.make_ready in count_there _ _ _ _ _ _ m.new.work m.new.class _ _ _ _ _ m.auto.class (rw c.in-On.is at m.ensures) c.requires.0
+
+pub make_from-requires : goal.make_from-requires
+make_from-requires c = let m = c.make_ready in classes_begin _ _ _ _ _ _ m.new.work m.new.class _ _ _ _ _ m.auto.class (rw c.in-On.is at m.ensures) _ c.count-fill.ensures c.requires.0 c.requires.1 c.requires.2
+
+pub returns-in-On : goal.returns-in-On
+returns-in-On c =
+    let m = c.make_ready in
+    let d = c.make_from in
+    classes_on _ _ _ _ _ _ m.new.work m.new.class _ _ _ _ _ m.auto.class (rw c.in-On.is at m.ensures) _ c.count-fill.ensures d.new.work d.new.class d.new.words d.new.cells d.result d.ensures
+
+pub returns-in-Short : goal.returns-in-Short
+returns-in-Short c = let m = c.make_ready in classes_short _ _ _ _ _ _ m.new.work m.new.class (rw c.in-Short.is at m.ensures) m.new.work m.new.class m.new.work m.new.work

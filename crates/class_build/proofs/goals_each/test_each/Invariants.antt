@@ -1,0 +1,12 @@
+-- `test_each` meets its contract: with each turn the goals left give the same answer.
+use borrow.Author.Rules.{rules}
+use Prim.Native.Nat.{◌-◌, ◌≤◌}
+use native.Mathlib.Omega.{arith}
+use Rattle.class_build.specs.EachGoal.{Going, going_none, going_testable, going_recorded, going_met, going_on, going_unmet, going_other}
+use Rattle.class_build.proofs.goals_each.test_each.Given as goal
+
+abbrev pub invariant-loop-g : goal.invariant-loop-g
+invariant-loop-g l = (l.g ≤ l.goals) × Going l.pack l.initial.work l.work l.class l.words l.c l.k l.l l.tables l.st l.seen l.values l.g
+
+abbrev pub decreases-loop-g : goal.decreases-loop-g
+decreases-loop-g l = l.goals - l.g

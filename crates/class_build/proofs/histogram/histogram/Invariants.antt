@@ -1,0 +1,13 @@
+-- `histogram` meets its contract.
+use borrow.Author.Rules.{rules}
+use Prim.Native.Nat.{◌-◌}
+use native.Mathlib.Numerals.{add-one}
+use native.Mathlib.Omega.{arith}
+use Rattle.class_build.specs.Slots.{Counting, counting-none, counting_wide, counting_more, counting-all}
+use Rattle.class_build.proofs.histogram.histogram.Given as goal
+
+abbrev pub invariant-loop-i : goal.invariant-loop-i
+invariant-loop-i l = Counting l.work l.k l.n l.i l.s
+
+abbrev pub decreases-loop-i : goal.decreases-loop-i
+decreases-loop-i l = l.n - l.i

@@ -1,0 +1,12 @@
+-- `put_hyp` meets its contract.
+use borrow.Author.Rules.{rules}
+use native.Mathlib.Omega.{arith}
+use Prim.Native.Nat.{◌-◌}
+use Rattle.emission.specs.Line.{hyp_line}
+use Rattle.emit_words.specs.Putting.{puts_over}
+use Rattle.emit_words.proofs.state.put_hyp.Goals as goal
+
+pub returns : goal.returns
+returns c =
+    let s = c.collect-said.result in
+    puts_over _ _ _ _ c.put_hyp_line.new.text _ _ _ _ (λ h ws. hyp_line (record { predicate = h; words = ws })) _ c.collect-said.new.numbers s c.collect-said.ensures (s.many - 0) (omega arith) c.put_hyp_line.ensures
