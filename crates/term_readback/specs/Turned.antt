@@ -1,8 +1,7 @@
 -- One turn as the code takes it, for the pack, graph, values and state that there are.
 use Rattle.std.specs.Prelude.{◌≡◌, refl, Bool, true, false, List, ℕ, suc, ◌+◌, ◌*◌, ◌≤◌, ◌<◌, eqb, ltb, length, get_or}
 use Rattle.std.proofs.Common.{sym, ap, ap₂, ◌∙◌, subst, arith}
-use Rattle.std.proofs.Math.Option.{some}
-use Rattle.definition.specs.Test.{is, ◌and◌}
+use Rattle.definition.specs.Test.{◌and◌}
 use Rattle.definition.specs.Store.{nothing}
 use Rattle.theory.specs.Walks.Machine.{Walking}
 use Rattle.theory.specs.Walks.Resolving.{Resolving}

@@ -1,5 +1,4 @@
 -- `finish` meets its contract.
-use borrow.Author.Rules.{rules}
 use Rattle.host_store.specs.Turns.{finished}
 use Rattle.host_store.proofs.finish.Goals as goal
 

@@ -1,5 +1,4 @@
 -- `intern_all` meets its contract.
-use borrow.Author.Rules.{rules}
 use mathlib.Core.Path.{sym, ◌∙◌}
 use Rattle.host_store.specs.Turns.{fit, tried-unfit, tried_short, tried-done}
 use Rattle.host_store.proofs.intern_all.Goals as goal

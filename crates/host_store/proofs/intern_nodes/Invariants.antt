@@ -1,13 +1,9 @@
 -- `intern_nodes` meets its contract: with each turn the rest of the run gives the same whole.
-use borrow.Author.Rules.{rules}
-use mathlib.Core.Path.{◌≡◌, refl, sym, ◌∙◌, subst}
-use mathlib.Core.List.{List}
+use mathlib.Core.Path.{◌≡◌}
 use Prim.Native.Nat.{◌-◌}
-use native.Mathlib.Omega.{arith}
 use lib.ListN.{length}
-use Rattle.definition.specs.Pack.{Node}
 use Rattle.store.specs.Stored.{Stored, nodes}
-use Rattle.host_store.specs.Turns.{Halfway, begun, over-filled}
+use Rattle.host_store.specs.Turns.{Halfway}
 use Rattle.host_store.proofs.intern_nodes.Given as goal
 
 abbrev pub invariant-loop-i : goal.invariant-loop-i

@@ -1,5 +1,4 @@
 -- `intern_one` meets its contract.
-use borrow.Author.Rules.{rules}
 use native.Mathlib.Omega.{arith}
 use Rattle.host_store.specs.Turns.{some_key, over_read, turned, full}
 use Rattle.host_store.proofs.intern_one.Goals as goal

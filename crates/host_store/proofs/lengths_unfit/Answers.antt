@@ -1,5 +1,4 @@
 -- `lengths_unfit` meets its contract.
-use borrow.Author.Rules.{rules}
 use mathlib.Core.Path.{sym}
 use Rattle.host_store.specs.Turns.{unfit_long, unfit_index}
 use Rattle.host_store.proofs.lengths_unfit.Goals as goal

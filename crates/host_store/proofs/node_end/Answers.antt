@@ -1,5 +1,4 @@
 -- `node_end` meets its contract.
-use borrow.Author.Rules.{rules}
 use native.Mathlib.Omega.{arith}
 use Rattle.host_store.proofs.node_end.Goals as goal
 

@@ -1,5 +1,4 @@
 -- `refuse` meets its contract.
-use borrow.Author.Rules.{rules}
 use Rattle.host_store.specs.Turns.{cleared}
 use Rattle.host_store.proofs.refuse.Goals as goal
 

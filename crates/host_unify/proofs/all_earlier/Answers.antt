@@ -1,10 +1,6 @@
 -- `all_earlier` meets its contract.
-use borrow.Author.Rules.{rules}
-use mathlib.Core.Path.{◌≡◌, refl, sym, ◌∙◌}
-use Prim.Native.Nat.{◌-◌, ◌≤◌}
+use mathlib.Core.Path.{refl, sym, ◌∙◌}
 use native.Mathlib.Omega.{arith}
-use lib.ListN.{length, drop}
-use Rattle.host_unify.specs.Solved.{earlier}
 use Rattle.host_unify.specs.Turns.{earlier_late, earlier-next, earlier-end}
 use Rattle.host_unify.proofs.all_earlier.Goals as goal
 

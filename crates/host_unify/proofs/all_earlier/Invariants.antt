@@ -1,11 +1,8 @@
 -- `all_earlier` meets its contract.
-use borrow.Author.Rules.{rules}
-use mathlib.Core.Path.{◌≡◌, refl, sym, ◌∙◌}
+use mathlib.Core.Path.{◌≡◌}
 use Prim.Native.Nat.{◌-◌, ◌≤◌}
-use native.Mathlib.Omega.{arith}
 use lib.ListN.{length, drop}
 use Rattle.host_unify.specs.Solved.{earlier}
-use Rattle.host_unify.specs.Turns.{earlier_late, earlier-next, earlier-end}
 use Rattle.host_unify.proofs.all_earlier.Given as goal
 
 abbrev pub invariant-loop-i : goal.invariant-loop-i

@@ -1,5 +1,4 @@
 -- `ask` meets its contract.
-use borrow.Author.Rules.{rules}
 use native.Mathlib.Omega.{arith}
 use Rattle.host_unify.specs.Tells.{nodes_small, refusal-told, asks_left, asks_right, asks_room, asks_solves}
 use Rattle.host_unify.proofs.ask.Goals as goal

@@ -1,5 +1,4 @@
 -- `lengths_unfit` meets its contract.
-use borrow.Author.Rules.{rules}
 use mathlib.Core.Path.{sym}
 use lib.ListN.{length}
 use Rattle.host_unify.specs.Tells.{unfit_long, unfit_work}

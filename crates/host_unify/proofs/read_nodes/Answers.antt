@@ -1,10 +1,7 @@
 -- `read_nodes` meets its contract.
-use borrow.Author.Rules.{rules}
-use mathlib.Core.Path.{◌≡◌, refl, ◌∙◌}
-use Prim.Native.Nat.{◌-◌}
+use mathlib.Core.Path.{refl, ◌∙◌}
 use native.Mathlib.Omega.{arith}
-use lib.ListN.{length}
-use Rattle.host_unify.specs.Turns.{Reading, begun, ended_there}
+use Rattle.host_unify.specs.Turns.{begun, ended_there}
 use Rattle.host_unify.proofs.read_nodes.Goals as goal
 
 pub new-g-requires : goal.new-g-requires

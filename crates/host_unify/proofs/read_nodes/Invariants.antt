@@ -1,10 +1,8 @@
 -- `read_nodes` meets its contract.
-use borrow.Author.Rules.{rules}
-use mathlib.Core.Path.{◌≡◌, refl, ◌∙◌}
+use mathlib.Core.Path.{◌≡◌}
 use Prim.Native.Nat.{◌-◌}
-use native.Mathlib.Omega.{arith}
 use lib.ListN.{length}
-use Rattle.host_unify.specs.Turns.{Reading, begun, ended_there}
+use Rattle.host_unify.specs.Turns.{Reading}
 use Rattle.host_unify.proofs.read_nodes.Given as goal
 
 abbrev pub invariant-loop-at : goal.invariant-loop-at

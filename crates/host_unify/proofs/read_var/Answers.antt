@@ -1,5 +1,4 @@
 -- `read_var` meets its contract.
-use borrow.Author.Rules.{rules}
 use native.Mathlib.Omega.{arith}
 use Rattle.host_unify.specs.Turns.{var_broken, var_full, var_next}
 use Rattle.host_unify.proofs.read_var.Goals as goal

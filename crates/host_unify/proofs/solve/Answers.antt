@@ -1,5 +1,4 @@
 -- `solve` meets its contract.
-use borrow.Author.Rules.{rules}
 use native.Mathlib.Omega.{arith}
 use Rattle.host_unify.specs.Tells.{solves_none, solves_joined, solves_clash}
 use Rattle.host_unify.proofs.solve.Goals as goal

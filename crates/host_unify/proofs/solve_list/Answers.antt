@@ -1,5 +1,4 @@
 -- `solve_list` meets its contract.
-use borrow.Author.Rules.{rules}
 use mathlib.Core.Path.{sym, ◌∙◌}
 use native.Mathlib.Omega.{arith}
 use Rattle.host_unify.specs.Tells.{fit, refusal-told, solved-unfit, solved_broken, solved-full, solved-whole}

@@ -1,5 +1,4 @@
 -- `tell_joined` meets its contract.
-use borrow.Author.Rules.{rules}
 use native.Mathlib.Omega.{arith}
 use Rattle.host_unify.specs.Tells.{joins, joins_only}
 use Rattle.host_unify.proofs.tell_joined.Goals as goal

@@ -1,5 +1,4 @@
 -- `unify_nodes` meets its contract.
-use borrow.Author.Rules.{rules}
 use lib.ListN.{length}
 use Rattle.host_unify.specs.Tells.{zeros-all, all_left}
 use Rattle.host_unify.proofs.unify_nodes.Goals as goal

@@ -1,10 +1,8 @@
 -- `write_roots` meets its contract.
-use borrow.Author.Rules.{rules}
-use Rattle.host_unify.specs.Tells.{nodes_small, Written, written_none, written-more, written_all}
-use mathlib.Core.Path.{◌≡◌, refl, ◌∙◌}
-use Prim.Native.Nat.{◌-◌, ◌≤◌}
+use Rattle.host_unify.specs.Tells.{nodes_small, written_none, written-more, written_all}
+use mathlib.Core.Path.{refl, ◌∙◌}
 use native.Mathlib.Omega.{arith}
-use lib.ListN.{length, length-set}
+use lib.ListN.{length-set}
 use Rattle.host_unify.proofs.write_roots.Goals as goal
 
 pub loop-i-init : goal.loop-i-init

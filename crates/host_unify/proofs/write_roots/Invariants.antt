@@ -1,10 +1,8 @@
 -- `write_roots` meets its contract.
-use borrow.Author.Rules.{rules}
-use Rattle.host_unify.specs.Tells.{nodes_small, Written, written_none, written-more, written_all}
-use mathlib.Core.Path.{◌≡◌, refl, ◌∙◌}
+use Rattle.host_unify.specs.Tells.{Written}
+use mathlib.Core.Path.{◌≡◌}
 use Prim.Native.Nat.{◌-◌, ◌≤◌}
-use native.Mathlib.Omega.{arith}
-use lib.ListN.{length, length-set}
+use lib.ListN.{length}
 use Rattle.host_unify.proofs.write_roots.Given as goal
 
 abbrev pub invariant-loop-i : goal.invariant-loop-i

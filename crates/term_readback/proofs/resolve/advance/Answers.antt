@@ -1,5 +1,4 @@
 -- `advance` meets its contract.
-use borrow.Author.Rules.{rules}
 use native.Mathlib.Omega.{arith}
 use Rattle.term_readback.specs.Turned.{turning_there, turning_small, turning_top, at-word, at_asking, at_passed, at-entering, at_entered, at-opening, at_short, at_finished}
 use Rattle.term_readback.proofs.resolve.advance.Goals as goal

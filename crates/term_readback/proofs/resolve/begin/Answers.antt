@@ -1,5 +1,4 @@
 -- `begin` meets its contract.
-use borrow.Author.Rules.{rules}
 use native.Mathlib.Omega.{arith}
 use Rattle.term_readback.specs.Frames.{begin_there, begins_so}
 use Rattle.term_readback.proofs.resolve.begin.Goals as goal

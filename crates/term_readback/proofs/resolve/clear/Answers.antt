@@ -1,5 +1,4 @@
 -- `clear` meets its contract.
-use borrow.Author.Rules.{rules}
 use Rattle.term_readback.specs.Frames.{clears}
 use Rattle.term_readback.proofs.resolve.clear.Goals as goal
 

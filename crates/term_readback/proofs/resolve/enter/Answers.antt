@@ -1,5 +1,4 @@
 -- `enter` meets its contract.
-use borrow.Author.Rules.{rules}
 use native.Mathlib.Omega.{arith}
 use Rattle.term_readback.specs.Frames.{enter_there, enters_so}
 use Rattle.term_readback.proofs.resolve.enter.Goals as goal

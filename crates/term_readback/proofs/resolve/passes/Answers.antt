@@ -1,5 +1,4 @@
 -- `passes` meets its contract.
-use borrow.Author.Rules.{rules}
 use mathlib.Core.Path.{ap, ◌∙◌}
 use lib.Dec.{ltb}
 use Rattle.term_lift.specs.Memo.{dropped_not, dropped_new}

@@ -1,11 +1,7 @@
 -- `resolve` meets its contract: with each turn what is left of the stack gives the same walk.
-use borrow.Author.Rules.{rules}
 use native.Mathlib.Omega.{arith}
-use mathlib.Core.Path.{◌≡◌, refl, ◌∙◌}
-use lib.ListN.{length}
-use Rattle.term_readback.specs.Words.{table_in}
-use Rattle.term_readback.specs.Measure.{turns_in}
-use Rattle.term_readback.specs.Runs.{Walks, walks_at, turns_at, walks_none, walks_turning, walks_on, walks_less, walks_short, done_there, done_some, walks_done}
+use mathlib.Core.Path.{refl, ◌∙◌}
+use Rattle.term_readback.specs.Runs.{walks_at, turns_at, walks_none, walks_turning, walks_on, walks_less, walks_short, done_there, done_some, walks_done}
 use Rattle.term_readback.specs.Starts.{first_asking, first_ready, first_low, first_walks, first_short, first_done}
 use Rattle.term_readback.proofs.resolve.resolve.Goals as goal
 

@@ -1,5 +1,4 @@
 -- `read_applied` meets its contract.
-use borrow.Author.Rules.{rules}
 use mathlib.Core.Path.{refl}
 use Rattle.term_readback.specs.Ways.{applied_ripe, applied-indexed, applied_short, applied_gives}
 use Rattle.term_readback.specs.Keys.{keyed-lent}

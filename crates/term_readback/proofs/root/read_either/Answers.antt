@@ -1,5 +1,4 @@
 -- `read_either` meets its contract.
-use borrow.Author.Rules.{rules}
 use Rattle.term_readback.specs.Ways.{opening-node, opening_so, gives_so}
 use Rattle.graph.specs.Joins.{head-variable, head-other}
 use Rattle.term_readback.specs.Roots.{Variable, Applied}

@@ -1,5 +1,4 @@
 -- `read_number` meets its contract.
-use borrow.Author.Rules.{rules}
 use native.Mathlib.Omega.{arith}
 use mathlib.Core.Path.{refl}
 use Rattle.term_readback.specs.Ways.{opening_asking, opening_few, opening-indexed, number_short, number_fits_in, number_gives}

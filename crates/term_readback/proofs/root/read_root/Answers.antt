@@ -1,5 +1,4 @@
 -- `read_root` meets its contract.
-use borrow.Author.Rules.{rules}
 use native.Mathlib.Omega.{arith}
 use Rattle.term_readback.specs.Ways.{opening_few}
 use Rattle.term_readback.specs.Noted.{notes_short, notes_small, notes_read}

@@ -1,5 +1,4 @@
 -- `argument_root` meets its contract.
-use borrow.Author.Rules.{rules}
 use Rattle.term_readback.specs.Asked.{arguing_there, argument_node, rooted}
 use Rattle.term_readback.proofs.table.argument_root.Goals as goal
 

@@ -1,5 +1,4 @@
 -- `count` meets its contract.
-use borrow.Author.Rules.{rules}
 use Rattle.term_readback.specs.Asked.{count-variable, count-applied}
 use Rattle.term_readback.proofs.table.count.Goals as goal
 

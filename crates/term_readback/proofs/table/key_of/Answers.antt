@@ -1,8 +1,6 @@
 -- `key_of` meets its contract: with each turn one word more of the key stands there.
-use borrow.Author.Rules.{rules}
-use Prim.Native.Nat.{◌-◌}
 use mathlib.Core.Path.{sym, ◌∙◌}
-use Rattle.term_readback.specs.Keys.{Keying, keying_first, keying_arguing, keying_there, keying_fits, keying_said, keying_more, keying_all}
+use Rattle.term_readback.specs.Keys.{keying_first, keying_arguing, keying_there, keying_fits, keying_said, keying_more, keying_all}
 use native.Mathlib.Omega.{arith}
 use Rattle.term_readback.proofs.table.key_of.Goals as goal
 

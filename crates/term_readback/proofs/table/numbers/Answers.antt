@@ -1,5 +1,4 @@
 -- `numbers` meets its contract.
-use borrow.Author.Rules.{rules}
 use Rattle.term_readback.specs.Asked.{numbers-all, numbers_flex}
 use Rattle.term_readback.proofs.table.numbers.Goals as goal
 

@@ -1,5 +1,4 @@
 -- `word_at` meets its contract.
-use borrow.Author.Rules.{rules}
 use mathlib.Core.Path.{sym}
 use Rattle.term_readback.specs.Moved.{table_at}
 use native.Mathlib.Omega.{arith}

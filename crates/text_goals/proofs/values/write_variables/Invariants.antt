@@ -1,0 +1,14 @@
+-- `write_variables` meets its contract: with each turn the lines of one variable more are there.
+use borrow.Author.Rules.{rules}
+use mathlib.Core.Path.{◌≡◌, refl, sym, ◌∙◌}
+use Prim.Native.Nat.{◌-◌, ◌≤◌}
+use native.Mathlib.Omega.{arith}
+use lib.ListN.{length}
+use Rattle.text_goals.specs.Lines.{Lining, lining_none, lining_lined, lining_many, lining_on, lining_all}
+use Rattle.text_goals.proofs.values.write_variables.Given as goal
+
+abbrev pub invariant-loop-k : goal.invariant-loop-k
+invariant-loop-k l = (l.k ≤ l.n) × (length l.text ≡ length l.initial.text) × Lining l.pack l.initial.work l.work l.class l.words l.initial.text l.text l.f l.at l.k l.end
+
+abbrev pub decreases-loop-k : goal.decreases-loop-k
+decreases-loop-k l = l.n - l.k
