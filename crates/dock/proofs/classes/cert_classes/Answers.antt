@@ -10,7 +10,8 @@ returns-in-Done c =
     let m = c.classes_outcome in
     let z = c.clear in
     let a = c.args in
-    promised_done a.pack.now a.class.now a.pattern.now a.graph.now a.work.now m.new.class m.new.pattern m.new.graph m.new.work m.auto.class m.auto.pattern m.auto.graph m.auto.work _ _ _ _ _ _ z.ensures.class z.ensures.pattern z.ensures.graph z.ensures.work (λ i. omega (arith, c.shared_slice_known-1.given i)) _ (rw c.in-Done.is at m.ensures)
+    let r = promised_done a.pack.now a.class.now a.pattern.now a.graph.now a.work.now m.new.class m.new.pattern m.new.graph m.new.work m.auto.class m.auto.pattern m.auto.graph m.auto.work _ _ _ _ _ _ z.ensures.class z.ensures.pattern z.ensures.graph z.ensures.work (λ i. omega (arith, c.shared_slice_known-1.given i)) c.in-Done.f (rw c.in-Done.is at m.ensures) in
+    record { answer = r.0; principal = r.1 }
 
 pub shape_of-class-in-Refused : goal.shape_of-class-in-Refused
 shape_of-class-in-Refused c = c.clear-in-Refused.auto.class ∙ c.classes_outcome.auto.class
@@ -20,4 +21,5 @@ returns-in-Refused c =
     let m = c.classes_outcome in
     let z = c.clear-in-Refused in
     let a = c.args in
-    promised_refused a.pack.now a.class.now a.pattern.now a.graph.now a.work.now m.new.class m.new.pattern m.new.graph m.new.work m.auto.class m.auto.pattern m.auto.graph m.auto.work _ _ _ _ _ _ z.ensures.class z.ensures.pattern z.ensures.graph z.ensures.work (λ i. omega (arith, c.shared_slice_known-1.given i)) refl refl _ _ _ (rw c.in-Refused.is at m.ensures) c.outcome_answer-a.ensures c.no_figures.ensures
+    let r = promised_refused a.pack.now a.class.now a.pattern.now a.graph.now a.work.now m.new.class m.new.pattern m.new.graph m.new.work m.auto.class m.auto.pattern m.auto.graph m.auto.work _ _ _ _ _ _ z.ensures.class z.ensures.pattern z.ensures.graph z.ensures.work (λ i. omega (arith, c.shared_slice_known-1.given i)) refl refl c.in-Refused.r c.outcome_answer-a.result c.no_figures.result (rw c.in-Refused.is at m.ensures) c.outcome_answer-a.ensures c.no_figures.ensures in
+    record { answer = r.0; principal = r.1 }

@@ -27,7 +27,7 @@ pub shape_of-stack-in-Full : goal.shape_of-stack-in-Full
 shape_of-stack-in-Full c = omega (arith, c.build_turn.auto.stack, c.loop-next.invariant.high)
 
 pub returns-in-Full : goal.returns-in-Full
-returns-in-Full c = going_full _ _ _ _ _ _ _ _ c.requires _ _ _ _ c.loop-next.invariant c.build_turn.new.work c.build_turn.new.words c.build_turn.new.stack (rw c.in-Full.is at c.build_turn.ensures.turn) (rw c.in-Full.is at c.build_turn.ensures.frame)
+returns-in-Full c = let r = going_full _ _ _ _ _ _ _ _ c.requires _ _ _ _ c.loop-next.invariant c.build_turn.new.work c.build_turn.new.words c.build_turn.new.stack (rw c.in-Full.is at c.build_turn.ensures.turn) (rw c.in-Full.is at c.build_turn.ensures.frame) in record { built = r.0; frame = r.1 }
 
 pub shape_of-work-in-Lacks : goal.shape_of-work-in-Lacks
 shape_of-work-in-Lacks c = omega (arith, c.build_turn.auto.work, c.loop-next.invariant.outside.long)
@@ -39,7 +39,7 @@ pub shape_of-stack-in-Lacks : goal.shape_of-stack-in-Lacks
 shape_of-stack-in-Lacks c = omega (arith, c.build_turn.auto.stack, c.loop-next.invariant.high)
 
 pub returns-in-Lacks : goal.returns-in-Lacks
-returns-in-Lacks c = going_lacks _ _ _ _ _ _ _ _ c.requires _ _ _ _ c.loop-next.invariant c.build_turn.new.work c.build_turn.new.words c.build_turn.new.stack (rw c.in-Lacks.is at c.build_turn.ensures.turn) (rw c.in-Lacks.is at c.build_turn.ensures.frame)
+returns-in-Lacks c = let r = going_lacks _ _ _ _ _ _ _ _ c.requires _ _ _ _ c.loop-next.invariant c.build_turn.new.work c.build_turn.new.words c.build_turn.new.stack (rw c.in-Lacks.is at c.build_turn.ensures.turn) (rw c.in-Lacks.is at c.build_turn.ensures.frame) in record { built = r.0; frame = r.1 }
 
 pub shape_of-work-in-Short : goal.shape_of-work-in-Short
 shape_of-work-in-Short c = omega (arith, c.build_turn.auto.work, c.loop-next.invariant.outside.long)
@@ -51,4 +51,4 @@ pub shape_of-stack-in-Short : goal.shape_of-stack-in-Short
 shape_of-stack-in-Short c = omega (arith, c.build_turn.auto.stack, c.loop-next.invariant.high)
 
 pub returns-in-Short : goal.returns-in-Short
-returns-in-Short c = going_short _ _ _ _ _ _ _ _ c.requires _ _ _ _ c.loop-next.invariant c.build_turn.new.work c.build_turn.new.words c.build_turn.new.stack (rw c.in-Short.is at c.build_turn.ensures.turn) (rw c.in-Short.is at c.build_turn.ensures.frame)
+returns-in-Short c = let r = going_short _ _ _ _ _ _ _ _ c.requires _ _ _ _ c.loop-next.invariant c.build_turn.new.work c.build_turn.new.words c.build_turn.new.stack (rw c.in-Short.is at c.build_turn.ensures.turn) (rw c.in-Short.is at c.build_turn.ensures.frame) in record { built = r.0; frame = r.1 }

@@ -54,7 +54,7 @@ returns-in-All c =
     let Y = rw q at c.match_rule.ensures.frame in
     let M = matched_to _ _ _ _ _ _ _ A _ Y _ q c.match_rule.result _ (not-false _ (ap not c.if-not-match_rule.false)) c.match_rule.ensures.matched in
     let N = rw q at c.rule_premises-n.ensures in
-    let K = built_by _ _ _ _ _ _ _ A _ Y M _ N c.build_premises.new.work c.build_premises.new.words c.build_premises.new.qs c.build_premises.auto.words _ q _ _ c.in-All.is c.build_premises.ensures in
+    let K = built_by _ _ _ _ _ _ _ A _ Y M _ N c.build_premises.new.work c.build_premises.new.words c.build_premises.new.qs c.build_premises.auto.words _ q _ _ c.in-All.is (c.build_premises.ensures.built, c.build_premises.ensures.frame) in
     rw c.with_store.ensures (answered-all _ _ _ _ _ _ _ A _ Y M _ N c.build_premises.new.work c.build_premises.new.words c.build_premises.new.qs c.build_premises.auto.words c.in-All.grown K (omega (arith, answered_few _ _ _ _ _ _ _ A _ Y M _ N, c.build_premises.auto.qs, c.requires.1)))
 
 pub shape_of-work-in-Lacks : goal.shape_of-work-in-Lacks
@@ -67,7 +67,7 @@ returns-in-Lacks c =
     let Y = rw q at c.match_rule.ensures.frame in
     let M = matched_to _ _ _ _ _ _ _ A _ Y _ q c.match_rule.result _ (not-false _ (ap not c.if-not-match_rule.false)) c.match_rule.ensures.matched in
     let N = rw q at c.rule_premises-n.ensures in
-    let K = built_by _ _ _ _ _ _ _ A _ Y M _ N c.build_premises.new.work c.build_premises.new.words c.build_premises.new.qs c.build_premises.auto.words _ q _ _ c.in-Lacks.is c.build_premises.ensures in
+    let K = built_by _ _ _ _ _ _ _ A _ Y M _ N c.build_premises.new.work c.build_premises.new.words c.build_premises.new.qs c.build_premises.auto.words _ q _ _ c.in-Lacks.is (c.build_premises.ensures.built, c.build_premises.ensures.frame) in
     rw c.with_store-in-Lacks.ensures (answered_lacks _ _ _ _ _ _ _ A _ Y M _ N c.build_premises.new.work c.build_premises.new.words c.build_premises.new.qs c.build_premises.auto.words c.in-Lacks.grown K)
 
 pub returns-in-Short : goal.returns-in-Short
@@ -77,5 +77,5 @@ returns-in-Short c =
     let Y = rw q at c.match_rule.ensures.frame in
     let M = matched_to _ _ _ _ _ _ _ A _ Y _ q c.match_rule.result _ (not-false _ (ap not c.if-not-match_rule.false)) c.match_rule.ensures.matched in
     let N = rw q at c.rule_premises-n.ensures in
-    let K = built_by _ _ _ _ _ _ _ A _ Y M _ N c.build_premises.new.work c.build_premises.new.words c.build_premises.new.qs c.build_premises.auto.words _ q _ _ c.in-Short.is c.build_premises.ensures in
+    let K = built_by _ _ _ _ _ _ _ A _ Y M _ N c.build_premises.new.work c.build_premises.new.words c.build_premises.new.qs c.build_premises.auto.words _ q _ _ c.in-Short.is (c.build_premises.ensures.built, c.build_premises.ensures.frame) in
     answered_short _ _ _ _ _ _ _ A _ Y M _ N c.build_premises.new.work c.build_premises.new.words c.build_premises.new.qs c.build_premises.auto.words K

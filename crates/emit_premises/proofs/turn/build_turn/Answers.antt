@@ -20,7 +20,7 @@ pub returns-then-full-b : goal.returns-then-full-b
 returns-then-full-b c =
     let A = c.requires in
     let r = c.read_turn.ensures in
-    record { turn = r.goes _; frame = (outside_none _ _ _, kept-stored _ _ _ c.read_turn.result r.keeps A.site.stored) }
+    record { turn = r.goes _; frame = (outside_none _ _ _, kept-stored _ _ c.args.b c.read_turn.result r.keeps A.site.stored) }
 
 pub returns-then-base-eq0 : goal.returns-then-base-eq0
 returns-then-base-eq0 c =

@@ -1,4 +1,5 @@
 -- `read_turn` meets its contract.
+use Rattle.std.proofs.Common.{◌-◌}
 use native.Mathlib.Omega.{arith}
 use mathlib.Core.Path.{ap}
 use Rattle.pack_read.specs.Reads.{length_symbols}
@@ -37,8 +38,8 @@ returns-then-w-lt-VAR c =
     let s = c.«open».ensures in
     record {
       goes = λ words P R Q l bs M f fs N.
-          rw (s.0, s.1) (symbol_goes P Q _ l _ p.6 _ _ (c.rule_word-w.ensures P R (word_there P Q _ l _ p.6 _ f fs N)) f fs N p.8 c.if-w-lt-VAR.true _ (c.symbol_arity-arity.ensures P R) bs words);
-      keeps = ap (λ (x : Building). x.store) s.0;
+          rw (s.state, s.words) (symbol_goes P Q _ l _ p.6 _ _ (c.rule_word-w.ensures P R (word_there P Q _ l _ p.6 _ f fs N)) f fs N p.8 c.if-w-lt-VAR.true _ (c.symbol_arity-arity.ensures P R) bs words);
+      keeps = ap (λ (x : Building). x.store) s.state;
     }
 
 pub give_value-requires : goal.give_value-requires
@@ -55,6 +56,6 @@ returns c =
     let v = c.give_value.ensures in
     record {
       goes = λ words P R Q l bs M f fs N.
-          variable_goes P Q _ l _ p.6 _ _ (c.rule_word-w.ensures P R (word_there P Q _ l _ p.6 _ f fs N)) f fs N p.8 (omega (arith, c.if-w-lt-VAR.false)) _ _ bs M words _ c.give_value.result v;
-      keeps = valued_keeps _ _ _ _ _ _ c.give_value.result v;
+          variable_goes P Q _ l _ p.6 _ _ (c.rule_word-w.ensures P R (word_there P Q _ l _ p.6 _ f fs N)) f fs N p.8 (omega (arith, c.if-w-lt-VAR.false)) c.args.work.now c.args.at bs M words c.give_value.new.stack c.give_value.result v;
+      keeps = valued_keeps c.args.work.now c.args.stack.now c.give_value.new.stack c.args.at c.args.b (c.rule_word-w.result - 2147483648) c.give_value.result v;
     }
