@@ -8,6 +8,7 @@
 HORN ?= ../shared/docs/src
 CARGO = CARGO_TARGET_DIR=$(CURDIR)/target/tools cargo
 TOOLS = target/tools/release
+HOSTS = host_store host_unify host_read host_walk_c host_search
 
 .PHONY: demo test tools oracle vectors bench proved dock host
 
@@ -27,7 +28,7 @@ proved:
 	@tools/prove dock list_records
 
 dock: proved
-	@rt staticlib dock > target/dock.log 2>&1 || { cat target/dock.log; exit 1; }
+	@tools/archives dock
 
 host: dock
 	@mkdir -p target/host
@@ -36,10 +37,8 @@ host: dock
 	done
 
 bench: tools dock
-	@tools/prove host_store host_unify host_read host_walk host_search
-	@for crate in host_store host_unify host_read host_walk host_search; do \
-	    rt staticlib $$crate > target/$$crate.log 2>&1 || { cat target/$$crate.log; exit 1; }; \
-	done
+	@tools/prove $(HOSTS)
+	@tools/archives $(HOSTS)
 	@HORN_SRC=$(realpath $(HORN)) RATTLE_LIB=$(CURDIR)/target/staticlib $(CARGO) build --offline --locked --release --quiet --manifest-path tools/Cargo.toml -p bench --features original
 	@$(TOOLS)/bench intern
 	@$(TOOLS)/bench unify --times
@@ -55,7 +54,7 @@ demo: tools host
 	@$(TOOLS)/certpack dump examples/nat.pack
 	@echo
 	@echo "Its records, by the proved program list_records (offset, kind, length of the body):"
-	@target/bin/list_records < examples/nat.pack
+	@cd crates/list_records && rt run < ../../examples/nat.pack 2> ../../target/list_records.log || { cat ../../target/list_records.log; exit 1; }
 	@echo
 	@echo "Verdict on its steps and goals, by the library, called from C (examples/check.c):"
 	@target/host/check examples/nat.pack

@@ -9,9 +9,8 @@ use crate::verdict::verdict;
 use std::fmt::Write as _;
 
 const HEAD: &str = "-- Recorded emissions of the Rust original, as rows of the definition.
-use mathlib.Core.Path.{refl}
-use mathlib.Core.List.{List, [], _∷_}
-use Rattle·emission.specs.Rows.Row.{Row, emits, left, ample, Claim, seen, said}
+use Rattle.std.specs.Prelude.{refl, [], ◌∷◌}
+use Rattle.emission.specs.Rows.Row.{Row, emits, left, ample, Claim, seen, said}
 ";
 
 /// What is expected of a case.
@@ -107,7 +106,7 @@ fn written(out: &mut String, case: &Case, name: &str, bytes: &str) -> Result<(),
         if short[i] > 0 {
             short[i] -= 1;
             let claim = format!("emits ({bytes}) {} 8 {buffer}", room(short));
-            row(out, &format!("{name}-short{buffer}"), &claim);
+            row(out, &format!("{name}_short{buffer}"), &claim);
         }
     }
     Ok(())

@@ -9,19 +9,16 @@ use crate::verdict::verdict;
 use std::fmt::Write as _;
 
 const HEAD: &str = "-- Recorded answers of the Rust original, as theorems of the definition.
-use mathlib.Core.Path.{_≡_, refl}
-use mathlib.Core.List.{List, [], _∷_, map}
-use Prim.Native.Nat.{ℕ}
-use Rattle·definition.specs.Frame.{right, within}
-use Rattle·definition.specs.Frame.{_>>=_ as _>>=f_}
-use Rattle·definition.specs.Run.{_>>=_ as _>>=r_}
-use Rattle·definition.specs.Store.{nodesIn, termOf}
-use Rattle·definition.specs.Graph.{upTo}
-use Rattle·definition.specs.Classes.{mark}
-use Rattle·definition.specs.Open.{at}
-use Rattle·definition.specs.Calls.{Left, certShow}
-use Rattle·definition.specs.declared.Figures.{Figures}
-use Rattle·definition.specs.declared.Answer.{Answer}
+use Rattle.std.specs.Prelude.{◌≡◌, refl, List, [], ◌∷◌, map, ℕ}
+use Rattle.definition.specs.Frame.{right, within, ◌>>=◌ as ◌>>=f◌}
+use Rattle.definition.specs.Run.{◌>>=◌ as ◌>>=r◌}
+use Rattle.definition.specs.Store.{nodes_in, term_of}
+use Rattle.definition.specs.Graph.{up_to}
+use Rattle.definition.specs.Classes.{mark}
+use Rattle.definition.specs.Open.{at}
+use Rattle.definition.specs.Calls.{Left, cert_show}
+use Rattle.definition.specs.declared.Figures.{Figures}
+use Rattle.definition.specs.declared.Answer.{Answer}
 ";
 
 /// The definition is evaluated on packs of so many bytes at the most.
@@ -30,13 +27,13 @@ const SMALL: usize = 512;
 const FIGURES: [&str; 13] = [
     "steps",
     "classes",
-    "«ground_nodes»",
-    "«pattern_nodes»",
-    "«class_vars»",
-    "«flex_vars»",
-    "«fixed_vars»",
-    "«subst_entries»",
-    "«subst_renamings»",
+    "ground_nodes",
+    "pattern_nodes",
+    "class_vars",
+    "flex_vars",
+    "fixed_vars",
+    "subst_entries",
+    "subst_renamings",
     "single",
     "few",
     "tens",
@@ -59,12 +56,12 @@ fn theorem(out: &mut String, name: &str, opened: &str, left: &str, right: &str) 
     );
 }
 
-const CALL: &str = "certShow _>>=f_ _>>=r_ right within";
+const CALL: &str = "cert_show ◌>>=f◌ ◌>>=r◌ right within";
 
 /// The lengths lent: class, pattern, graph, work, text.
 fn call(pack: &str, l: [usize; 5]) -> String {
     let [class, pattern, graph, work, text] = l;
-    format!("certShow ({pack}) 60 12 {class} {pattern} {graph} {work} {text}")
+    format!("cert_show ({pack}) 60 12 {class} {pattern} {graph} {work} {text}")
 }
 
 /// What record 9 opens in the conclusion of each goal's class.
@@ -80,13 +77,13 @@ fn openings(out: &mut String, name: &str, pack: &Pack, case: &Case) -> Result<()
             .collect();
         let many = case.pattern_words.len();
         let left = format!(
-            "map (λ (k : ℕ). mark (at {constructor} {position} k (termOf (nodesIn {many} ({words})) {conclusion}))) (upTo {variables})"
+            "map (λ (k : ℕ). mark (at {constructor} {position} k (term_of (nodes_in {many} ({words})) {conclusion}))) (up_to {variables})"
         );
-        let name = format!("{name}-open{g}");
+        let name = format!("{name}_open{g}");
         theorem(
             out,
             &name,
-            "mark at termOf nodesIn upTo",
+            "mark at term_of nodes_in up_to",
             &left,
             &list(&marks),
         );
@@ -115,8 +112,8 @@ pub fn theorems(cases: &[&Case]) -> Result<String, String> {
         if let Some((number, place)) = verdict(&pack) {
             let answer = format!("record {{ code = {number}; place = {place} }}");
             let call = call(&bytes, [5000, 5000, 5000, 1_000_000, 5000]);
-            let left = format!("{call} .returned");
-            theorem(&mut out, &format!("{name}-refused"), CALL, &left, &answer);
+            let left = format!("({call}).returned");
+            theorem(&mut out, &format!("{name}_refused"), CALL, &left, &answer);
             continue;
         }
         if case.classes != "done" {
@@ -129,8 +126,8 @@ pub fn theorems(cases: &[&Case]) -> Result<String, String> {
             call(&bytes, enough(graph))
         );
         let mut of = |part: &str, right: &str| {
-            let left = format!("{name} .{part}");
-            theorem(&mut out, &format!("{name}-{part}"), &name, &left, right);
+            let left = format!("{name}.{part}");
+            theorem(&mut out, &format!("{name}_{part}"), &name, &left, right);
         };
         of("class", &list(&case.class_words));
         of("pattern", &list(&case.pattern_words));
@@ -143,10 +140,10 @@ pub fn theorems(cases: &[&Case]) -> Result<String, String> {
             if short[i] > 0 {
                 short[i] -= 1;
                 let answer = format!("record {{ code = 8; place = {buffer} }}");
-                let left = format!("{} .returned", call(&bytes, short));
+                let left = format!("({}).returned", call(&bytes, short));
                 theorem(
                     &mut out,
-                    &format!("{name}-short{buffer}"),
+                    &format!("{name}_short{buffer}"),
                     CALL,
                     &left,
                     &answer,
