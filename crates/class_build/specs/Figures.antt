@@ -20,7 +20,7 @@ use Rattle.class_all.specs.Totals.{Sums}
 pub record Measured (work class index words : List ℕ) (k : Keying) (r : Counts) (n : ℕ) (st : Store) (t : Counted) (P : Pack) (b : Built) : Type 0 where
   pub keyed : KeyedIn P work class k r
   pub classes : r.classes ≡ length b.classes
-  pub ground : n ≡ length P.nodes
+  pub closed : n ≡ length P.nodes
   pub stored : Stored index words st
   pub store : nodes words st ≡ b.store
   pub summed : Sums t b.classes
@@ -40,4 +40,4 @@ unfolding figures
 figured work k r n m st t s S H class index words P b C =
     let D = S (keys_of P).classes (counts_of P work class k r C.keyed) in
     let p : m ≡ length b.store = H index words C.stored ∙ ap length C.store in
-    rw (C.keyed.needed, C.classes, C.ground, p, sym C.summed.vars, sym C.summed.flex, sym C.summed.fixed, sym C.summed.entries, sym C.summed.renamings, D.single, D.few, D.tens, D.hundreds)
+    rw (C.keyed.needed, C.classes, C.closed, p, sym C.summed.vars, sym C.summed.flex, sym C.summed.fixed, sym C.summed.entries, sym C.summed.renamings, D.single, D.few, D.tens, D.hundreds)

@@ -108,7 +108,7 @@ module _ (bytes work class words cells : List ℕ) (c : Catalog) (k : Keying) (l
       F class (index_in work (lifted_of l)) words P b (record {
         keyed = keyed_still;
         classes = keyed_still.classes ∙ sym E.all;
-        ground = S.lifts.laid.many ∙ sym (length-nodes bytes (records_of work c) P S.reads);
+        closed = S.lifts.laid.many ∙ sym (length-nodes bytes (records_of work c) P S.reads);
         stored = S.lifts.laid.index;
         store = S.store;
         summed = E.summed;

@@ -134,10 +134,10 @@ module _ (pack proof work words : List ℕ) (l : Places) (m : Standing) (w : Wor
           let t = nodes words₂ st in
           let whole = same i ∙ whole_is x y j (nodes words m.store) t q.0 (ready_rests pack proof work words l m w e R j h) C.value C.nodes_are in
           let g : Grows s t = subst (λ (r : StoredAll). Grows s r.store) whole (replace_grows w.setting.eigen y (suc j) (j ∷ []) s) in
-          let fits = begins_long t words₂ C.Stored-on.placed.begins in (
+          let fits = begins_long t words₂ C.stored_on.placed.begins in (
             having_store t e,
             put-got w.lent w.setting y j e q.0 t whole g (omega (arith, fits, long, R.holding.pattern_lent)),
-            holding_apart (lends pack work words proof) l m w e R.holding work₂ words₂ st t (apart_then l work work₁ work₂ apart A.apart) long C.Stored-on refl g (replaced_stamp work₂ l memo (A.stamp ∙ B.stamp) C.remembers),
+            holding_apart (lends pack work words proof) l m w e R.holding work₂ words₂ st t (apart_then l work work₁ work₂ apart A.apart) long C.stored_on refl g (replaced_stamp work₂ l memo (A.stamp ∙ B.stamp) C.remembers),
           )
 
       -- a short buffer is emission's

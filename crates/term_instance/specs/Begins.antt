@@ -117,7 +117,7 @@ module _ (bytes work words : List ℕ) (c : Catalog) (l : Instance) (st : Store)
         first_ready = record {
           given = given_on bytes work words c l st seen values H first fresh bare first-kept;
           pattern = p;
-          ground = n;
+          closed = n;
           was = [];
           bindings = [];
           left = first-left H.held.pack H.held.reads H.held.proper;

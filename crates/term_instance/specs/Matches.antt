@@ -119,15 +119,15 @@ module _ (bytes before work words : List ℕ) (c : Catalog) (l : Instance) (st :
   going_reads P R = given_reads bytes before words c l st seen values B.given l.pairs l.end work (omega arith) G.kept.outside P R
 
   -- what is left now
-  abbrev going_left : (ts : List Bound) × (ws : List Bound) × Left B.given.held.pack work words l st seen values B.pattern B.ground (suc top) ts ws
-  going_left = let H = B.given.held in G.state H.pack H.reads H.proper B.pattern B.ground B.was B.bindings B.left
+  abbrev going_left : (ts : List Bound) × (ws : List Bound) × Left B.given.held.pack work words l st seen values B.pattern B.closed (suc top) ts ws
+  going_left = let H = B.given.held in G.state H.pack H.reads H.proper B.pattern B.closed B.was B.bindings B.left
 
   -- the next pair can be taken
   pub going_ready : Ready bytes work words c l st seen values top
   going_ready = record {
     given = given_on bytes before words c l st seen values B.given work seen values G.kept;
     pattern = B.pattern;
-    ground = B.ground;
+    closed = B.closed;
     was = going_left.0;
     bindings = going_left.1;
     left = going_left.2;
@@ -151,4 +151,4 @@ module _ (bytes before work words : List ℕ) (c : Catalog) (l : Instance) (st :
         let H = B.given.held in
         let t = going_left in
         let m = M.1 H.pack (going_reads H.pack H.reads) t.0 t.1 t.2.memos in
-        (left_on H.pack H.proper work words l st seen values B.given.patterns B.pattern B.ground top t.0 t.1 t.2 work' more m.0 m.1 m.2 m.3).1
+        (left_on H.pack H.proper work words l st seen values B.given.patterns B.pattern B.closed top t.0 t.1 t.2 work' more m.0 m.1 m.2 m.3).1

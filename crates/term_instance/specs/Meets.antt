@@ -42,7 +42,7 @@ Takes bytes work work' words c l st seen values top p n Unlike =
 pub record Applied (bytes work words : List ℕ) (c : Catalog) (l : Instance) (st : Store) (seen values : Memo) (top p n head : ℕ) : Type 0 where
   pub given : Given bytes work words c l st seen values
   pub pattern : p < length (nodes words st)
-  pub ground : n < length (records_of work c 3)
+  pub closed : n < length (records_of work c 3)
   pub applied : is_variable (get_or (nodes words st) p no_node) ≡ false
   pub head_is : head ≡ (get_or (nodes words st) p no_node).head
   pub room : seen_at work l seen p ≡ none → top + length (args_of words st p) ≤ st.used
@@ -130,7 +130,7 @@ module _ (bytes work words : List ℕ) (c : Catalog) (l : Instance) (st : Store)
             index = H.index;
             stored = subst (λ (zs : List ℕ). Stored zs words st) (sym (lent-before l.pairs l.end work mid mid_outside l.index l.pairs H.index (omega arith) (omega (arith, wide, wider, H.order, H.fits)))) H.stored;
             pattern = Q.pattern;
-            ground = given_ground bytes work words c l st seen values H l.pairs l.end mid (omega arith) mid_outside n Q.ground;
+            closed = given_ground bytes work words c l st seen values H l.pairs l.end mid (omega arith) mid_outside n Q.closed;
             arity = K;
             many = λ P R. sym as_many ∙ N P (back P R);
             room = omega (arith, Q.room B.bare, K, H.pairs);

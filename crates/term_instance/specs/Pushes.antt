@@ -31,7 +31,7 @@ pub record Pushable (bytes work words : List ℕ) (c : Catalog) (l : Instance) (
   pub index : l.index ≤ l.pairs
   pub stored : Stored (lent l.index l.pairs work) words st
   pub pattern : p < length (nodes words st)
-  pub ground : n < length (records_of work c 3)
+  pub closed : n < length (records_of work c 3)
   pub arity : k ≡ length (args_of words st p)
   pub many : OfPack bytes work c (λ P. length (node_of P n).args) k
   pub room : l.pairs + 2 * (top + k) ≤ l.seen
@@ -80,7 +80,7 @@ module _ (bytes before words : List ℕ) (c : Catalog) (l : Instance) (st : Stor
 
     -- n is a ground node still
     pub pushing_ground : n < length (records_of work c 3)
-    pushing_ground = omega (arith, Q.ground, ap (λ (ps : List Place). length ps) (same-records before work c (outside_same before work c l.pairs l.seen Q.apart K.outside) Q.held.cataloged.fits 3 (omega arith)))
+    pushing_ground = omega (arith, Q.closed, ap (λ (ps : List Place). length ps) (same-records before work c (outside_same before work c l.pairs l.seen Q.apart K.outside) Q.held.cataloged.fits 3 (omega arith)))
 
     module _ (more : 0 < i) where
       -- the last argument that is left

@@ -46,10 +46,10 @@ pub record Left (P : Pack) (work words : List ℕ) (l : Instance) (st : Store) (
 pub record Ready (bytes work words : List ℕ) (c : Catalog) (l : Instance) (st : Store) (seen values : Memo) (top : ℕ) : Type 0 where
   pub given : Given bytes work words c l st seen values
   pub pattern : ℕ
-  pub ground : ℕ
+  pub closed : ℕ
   pub was : List Bound
   pub bindings : List Bound
-  pub left : Left given.held.pack work words l st seen values pattern ground (suc top) was bindings
+  pub left : Left given.held.pack work words l st seen values pattern closed (suc top) was bindings
 
 -- the pattern of the pair behind the others
 abbrev pub left_word : List ℕ → Instance → ℕ → ℕ
@@ -100,7 +100,7 @@ module _ (bytes work words : List ℕ) (c : Catalog) (l : Instance) (st : Store)
         record {
           given = Q.given;
           pattern = ready_pattern;
-          ground = ready_ground;
+          closed = ready_ground;
           applied = v;
           head_is = H;
           room = λ e.

@@ -43,7 +43,7 @@ Gives bytes work work' words c l s top at n Unlike =
 pub record Fresh (bytes work words : List ℕ) (c : Catalog) (l : Valued) (s : Counts) (top r n : ℕ) : Type 0 where
   pub values : Values bytes work words c l s
   pub node : r < s.nodes
-  pub ground : n < length (records_of work c 3)
+  pub closed : n < length (records_of work c 3)
   pub bare : ValueIs words (table_in l work) r Nothing
   pub room : top + length (vertex values.graph r).args ≤ length words + 1
 
@@ -62,7 +62,7 @@ module _ (bytes work words : List ℕ) (c : Catalog) (l : Valued) (s : Counts) (
   fresh_small =
       let C = Q.values.held.cataloged in
       let K = C.kept 3 (omega arith) in
-      omega (arith, Q.ground, K.few, K.small, length-listed (place_in (region_of work c 3)) (count_in (region_of work c 3)))
+      omega (arith, Q.closed, K.few, K.small, length-listed (place_in (region_of work c 3)) (count_in (region_of work c 3)))
 
   -- the pairs have room
   pub fresh_low : top ≤ length words + 1
@@ -133,7 +133,7 @@ module _ (bytes work words : List ℕ) (c : Catalog) (l : Valued) (s : Counts) (
         gives_pushable = record {
           values = values_on bytes work next words c l s Q.values W.1 (pairing r n ∷ Q.values.values) next_stands;
           node = Q.node;
-          ground = ground_on bytes work next words c l n Q.values.held.cataloged Q.values.apart W.1 Q.ground;
+          closed = ground_on bytes work next words c l n Q.values.held.cataloged Q.values.apart W.1 Q.closed;
           arity = λ g S. A g (shows_back g S);
           many = λ P R. sym same ∙ B P (reads_back bytes work next c (framed_same words l work next c Q.values.apart W.1) Q.values.held.cataloged P R);
           room = omega (arith, Q.room, A Q.values.graph Q.values.stands.shows);

@@ -29,7 +29,7 @@ ground_on bytes work work' words c l n C h A m = omega (arith, m, ap (λ (ps : L
 pub record Pushable (bytes work words : List ℕ) (c : Catalog) (l : Valued) (s : Counts) (top r n k : ℕ) : Type 0 where
   pub values : Values bytes work words c l s
   pub node : r < s.nodes
-  pub ground : n < length (records_of work c 3)
+  pub closed : n < length (records_of work c 3)
   pub arity : ArityOf words (table_in l work) s r k
   pub many : OfPack bytes work c (λ P. length (node_of P n).args) k
   pub room : top + k ≤ length words + 1
@@ -78,7 +78,7 @@ module _ (bytes before words : List ℕ) (c : Catalog) (l : Valued) (s : Counts)
 
     -- n is a ground node still
     pub pushing_ground : n < length (records_of work c 3)
-    pushing_ground = ground_on bytes before work words c l n Q.values.held.cataloged Q.values.apart K.framed Q.ground
+    pushing_ground = ground_on bytes before work words c l n Q.values.held.cataloged Q.values.apart K.framed Q.closed
 
     module _ (more : 0 < i) where
       -- the last argument that is left, of either

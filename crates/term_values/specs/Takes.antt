@@ -134,7 +134,7 @@ module _ (bytes work words : List ℕ) (c : Catalog) (l : Valued) (s : Counts) (
               stands = S;
             };
             node = F.0.0;
-            ground = ground_on bytes work mid words c l n H.held.cataloged H.apart F.1 (omega (arith, right, ready_ground));
+            closed = ground_on bytes work mid words c l n H.held.cataloged H.apart F.1 (omega (arith, right, ready_ground));
             bare = E;
             room = omega (arith, less, Q.left.most, length-pairs_in (rows_end words) (table_in l work) (suc top));
           }

@@ -24,7 +24,7 @@ use Rattle.text_goals.specs.declared.form.Form.{Form}
 
 -- the pack's ground nodes in place of patterns, and the other way
 abbrev pub ground_of : Source → Source
-ground_of s = record { catalog = s.catalog; index = s.index; end = s.end; store = s.store; ground = true }
+ground_of s = record { catalog = s.catalog; index = s.index; end = s.end; store = s.store; is_ground = true }
 
 -- what a variable's value is
 abbrev pub value_in : List ℕ → Form → ℕ → Option ℕ
@@ -32,7 +32,7 @@ value_in work f k = recall_at f.values f.stack work f.memo k
 
 -- patterns, ground nodes, the row and the values stand ahead of the stack, which has room
 pub record Lined (bytes work class words : List ℕ) (f : Form) : Type 0 where
-  pub pattern : f.patterns.ground ≡ false
+  pub pattern : f.patterns.is_ground ≡ false
   pub patterns : Placed bytes work words f.patterns f.stack
   pub grounds : Placed bytes work words (ground_of f.patterns) f.stack
   -- the class's row: so many variables, with their marks

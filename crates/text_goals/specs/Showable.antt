@@ -35,7 +35,7 @@ use Rattle.text_goals.specs.declared.form.Form.{Form}
 
 -- the store's patterns, as the instance test reads them
 abbrev pub patterns_of : Building → Instance → Source
-patterns_of s t = record { catalog = s.catalog; index = t.index; end = t.pairs; store = s.store; ground = false }
+patterns_of s t = record { catalog = s.catalog; index = t.index; end = t.pairs; store = s.store; is_ground = false }
 
 -- where a goal's lines are read
 abbrev pub form_of : Building → Instance → Memo → ℕ → ℕ → Form
@@ -120,8 +120,8 @@ module _ (bytes work class words : List ℕ) (s : Building) (t : Instance) (seen
     behind : t.pairs ≤ t.end
     behind = let G = S.given in omega (arith, G.pairs, G.table, G.order)
 
-    sourced : (ground : Bool) → Sourced bytes work' words (record { catalog = s.catalog; index = t.index; end = t.pairs; store = s.store; ground = ground })
-    sourced ground =
+    sourced : (is_ground : Bool) → Sourced bytes work' words (record { catalog = s.catalog; index = t.index; end = t.pairs; store = s.store; is_ground = is_ground })
+    sourced is_ground =
         let H = met-given in
         record {
           held = H.held;

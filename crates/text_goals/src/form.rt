@@ -28,6 +28,6 @@ pub fn on_ground(s: Source) -> Source
         index: s.index,
         end: s.end,
         store: store,
-        ground: true,
+        is_ground: true,
     }
 }

@@ -39,7 +39,7 @@ fn form(s: Building, t: Instance, values: Memo, row: usize, budget: u64) -> Form
         index: t.index,
         end: t.pairs,
         store: store,
-        ground: false,
+        is_ground: false,
     };
     Form {
         patterns: patterns,

@@ -45,7 +45,7 @@ OfRead bytes work c F = (P : Pack) → Reads bytes (records_of work c) P → F P
 
 -- the nodes that are meant
 unfoldable pub nodes_of : Pack → List ℕ → Source → List Node
-nodes_of P words s = elim s.ground [ true ↦ P.nodes | false ↦ nodes words s.store ]
+nodes_of P words s = elim s.is_ground [ true ↦ P.nodes | false ↦ nodes words s.store ]
 
 -- one of them
 abbrev pub node_in : Pack → List ℕ → Source → ℕ → Node
@@ -53,7 +53,7 @@ node_in P words s x = get_or (nodes_of P words s) x no_node
 
 -- how many there are
 unfoldable pub many_in : List ℕ → List ℕ → Source → ℕ
-many_in work words s = elim s.ground [ true ↦ length (records_of work s.catalog 3) | false ↦ length (nodes words s.store) ]
+many_in work words s = elim s.is_ground [ true ↦ length (records_of work s.catalog 3) | false ↦ length (nodes words s.store) ]
 
 -- the pack and the store's index can be read
 pub record Sourced (bytes work words : List ℕ) (s : Source) : Type 0 where
@@ -71,33 +71,33 @@ OfSource bytes work s F = OfHeld bytes work s.catalog F
 
 -- ---- what is meant, by cases
 module _ (P : Pack) (work words : List ℕ) (s : Source) where
-  pub nodes_ground : s.ground ≡ true → nodes_of P words s ≡ P.nodes
+  pub nodes_ground : s.is_ground ≡ true → nodes_of P words s ≡ P.nodes
   unfolding nodes_of
   nodes_ground e = rw (e, nodes_of)
 
-  pub nodes_pattern : s.ground ≡ false → nodes_of P words s ≡ nodes words s.store
+  pub nodes_pattern : s.is_ground ≡ false → nodes_of P words s ≡ nodes words s.store
   unfolding nodes_of
   nodes_pattern e = rw (e, nodes_of)
 
-  pub many_ground : s.ground ≡ true → many_in work words s ≡ length (records_of work s.catalog 3)
+  pub many_ground : s.is_ground ≡ true → many_in work words s ≡ length (records_of work s.catalog 3)
   unfolding many_in
   many_ground e = rw (e, many_in)
 
-  pub many_pattern : s.ground ≡ false → many_in work words s ≡ length (nodes words s.store)
+  pub many_pattern : s.is_ground ≡ false → many_in work words s ≡ length (nodes words s.store)
   unfolding many_in
   many_pattern e = rw (e, many_in)
 
 -- one node
-pub ground_node : (P : Pack) (words : List ℕ) (s : Source) (x : ℕ) → s.ground ≡ true → node_of P x ≡ node_in P words s x
+pub ground_node : (P : Pack) (words : List ℕ) (s : Source) (x : ℕ) → s.is_ground ≡ true → node_of P x ≡ node_in P words s x
 unfolding node_of
 ground_node P words s x e = ap (λ (ns : List Node). get_or ns x no_node) (sym (nodes_ground P words words s e))
 
-pub pattern_node : (P : Pack) (words : List ℕ) (s : Source) (x : ℕ) → s.ground ≡ false → get_or (nodes words s.store) x no_node ≡ node_in P words s x
+pub pattern_node : (P : Pack) (words : List ℕ) (s : Source) (x : ℕ) → s.is_ground ≡ false → get_or (nodes words s.store) x no_node ≡ node_in P words s x
 pattern_node P words s x e = ap (λ (ns : List Node). get_or ns x no_node) (sym (nodes_pattern P words words s e))
 
 -- there are as many nodes as that
 pub many-nodes : (bytes work words : List ℕ) (s : Source) (P : Pack) → Reads bytes (records_of work s.catalog) P → length (nodes_of P words s) ≡ many_in work words s
-many-nodes bytes work words s P R = elim (see s.ground) [
+many-nodes bytes work words s P R = elim (see s.is_ground) [
   | is true e ↦ ap length (nodes_ground P work words s e) ∙ length-nodes bytes (records_of work s.catalog) P R ∙ sym (many_ground P work words s e)
   | is false e ↦ ap length (nodes_pattern P work words s e) ∙ sym (many_pattern P work words s e)
 ]
@@ -115,7 +115,7 @@ module _ (P : Pack) (G : Good P) (F : Few P) where
 module _ (bytes work words : List ℕ) (s : Source) (S : Sourced bytes work words s) (P : Pack) (R : Reads bytes (records_of work s.catalog) P) (Q : Proper P) where
   -- nodes rest on earlier ones
   pub source_earlier : Earlier (nodes_of P words s)
-  source_earlier = elim (see s.ground) [
+  source_earlier = elim (see s.is_ground) [
     | is true e ↦ subst Earlier (sym (nodes_ground P work words s e)) (ground_earlier P Q.good Q.few)
     | is false e ↦ subst Earlier (sym (nodes_pattern P work words s e)) S.earlier
   ]
@@ -123,7 +123,7 @@ module _ (bytes work words : List ℕ) (s : Source) (S : Sourced bytes work word
   -- an application has few arguments
   pub source_few : (x : ℕ) → x < length (nodes_of P words s) → is_variable (node_in P words s x) ≡ false → length (node_in P words s x).args ≤ most_arity
   unfolding node_of
-  source_few x h v = elim (see s.ground) [
+  source_few x h v = elim (see s.is_ground) [
     | is true e ↦
         let n = nodes_ground P work words s e in
         omega (arith, ap (λ (ns : List Node). length (get_or ns x no_node).args) n, ground_few P Q.good x (omega (arith, h, ap length n)))
@@ -134,7 +134,7 @@ module _ (bytes work words : List ℕ) (s : Source) (S : Sourced bytes work word
 
   -- a variable has a number
   pub source_number : (x : ℕ) → x < many_in work words s → is_variable (node_in P words s x) ≡ true → 0 < length (node_in P words s x).args
-  source_number x h v = elim (see s.ground) [
+  source_number x h v = elim (see s.is_ground) [
     | is true e ↦
         let n = nodes_ground P work words s e in
         let l : x < length P.nodes = omega (arith, h, many_ground P work words s e, length-nodes bytes (records_of work s.catalog) P R) in
@@ -174,4 +174,4 @@ module _ (bytes work work' words : List ℕ) (s : Source) (e : ℕ) (U : Upto e 
 
   pub source_many : Sourced bytes work words s → many_in work' words s ≡ many_in work words s
   unfolding many_in
-  source_many S = ap (λ (n : ℕ). elim s.ground [ true ↦ n | false ↦ length (nodes words s.store) ]) (ap length (same-records work work' s.catalog same S.held.cataloged.fits 3 (omega arith)))
+  source_many S = ap (λ (n : ℕ). elim s.is_ground [ true ↦ n | false ↦ length (nodes words s.store) ]) (ap length (same-records work work' s.catalog same S.held.cataloged.fits 3 (omega arith)))

@@ -14,7 +14,7 @@ pub struct Source {
     pub index: usize,
     pub end: usize,
     pub store: Store,
-    pub ground: bool,
+    pub is_ground: bool,
 }
 
 // The head of node `x`.
@@ -22,7 +22,7 @@ pub fn head_of(pack: &[u8], work: &[u32], words: &[u32], s: Source, x: u32) -> u
     requires { Sourced pack.now work.now words.now s × (x < many_in work.now words.now s) }
     ensures { OfSource pack.now work.now s (λ P. result ≡ (node_in P words.now s x).head) }
 {
-    if s.ground {
+    if s.is_ground {
         return node_head(pack, work, s.catalog, Ground(x));
     }
     let a = s.index;
@@ -35,7 +35,7 @@ pub fn arity_of(pack: &[u8], work: &[u32], words: &[u32], s: Source, x: u32) -> 
     requires { Sourced pack.now work.now words.now s × (x < many_in work.now words.now s) }
     ensures { OfSource pack.now work.now s (λ P. result ≡ length (node_in P words.now s x).args) }
 {
-    if s.ground {
+    if s.is_ground {
         return node_arity(pack, work, s.catalog, Ground(x));
     }
     let a = s.index;
@@ -48,7 +48,7 @@ pub fn argument_of(pack: &[u8], work: &[u32], words: &[u32], s: Source, x: u32, 
     requires { (S : Sourced pack.now work.now words.now s) × (x < many_in work.now words.now s) × (i < length (node_in S.held.pack words.now s x).args) }
     ensures { OfSource pack.now work.now s (λ P. result ≡ get_or (node_in P words.now s x).args i 0) }
 {
-    if s.ground {
+    if s.is_ground {
         return node_argument(pack, work, s.catalog, Ground(x), i).0;
     }
     let a = s.index;

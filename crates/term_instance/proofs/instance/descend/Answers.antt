@@ -4,7 +4,7 @@ use Rattle.term_instance.specs.Meets.{seen_placed, descends_unlike, descends_lon
 use Rattle.term_instance.proofs.instance.descend.Goals as goal
 
 pub node_head-requires : goal.node_head-requires
-node_head-requires c = let Q = c.requires.applied in (readable _ _ _ Q.given.held, Q.ground)
+node_head-requires c = let Q = c.requires.applied in (readable _ _ _ Q.given.held, Q.closed)
 
 pub shape_of-work-then-node_head-head : goal.shape_of-work-then-node_head-head
 shape_of-work-then-node_head-head c = search
@@ -19,7 +19,7 @@ pub arity-k-requires : goal.arity-k-requires
 arity-k-requires c = let Q = c.requires.applied in (Q.given.stored, Q.pattern)
 
 pub node_arity-requires : goal.node_arity-requires
-node_arity-requires c = let Q = c.requires.applied in (readable _ _ _ Q.given.held, Q.ground)
+node_arity-requires c = let Q = c.requires.applied in (readable _ _ _ Q.given.held, Q.closed)
 
 pub shape_of-work-then-node_arity-k : goal.shape_of-work-then-node_arity-k
 shape_of-work-then-node_arity-k c = search

@@ -19,7 +19,7 @@ returns-then-head c =
     gives_variable _ _ _ _ _ _ _ _ _ Q _ c.put_value.ensures h.result h.ensures c.if-head.true
 
 pub node_head-requires : goal.node_head-requires
-node_head-requires c = let Q = c.requires in (readable _ _ _ Q.values.held, Q.ground)
+node_head-requires c = let Q = c.requires in (readable _ _ _ Q.values.held, Q.closed)
 
 pub shape_of-work-then-node_head-head : goal.shape_of-work-then-node_head-head
 shape_of-work-then-node_head-head c = search
@@ -35,7 +35,7 @@ pub arity-k-requires : goal.arity-k-requires
 arity-k-requires c = let Q = c.requires in (Q.values.stands.shows.laid, Q.node)
 
 pub node_arity-requires : goal.node_arity-requires
-node_arity-requires c = let Q = c.requires in (readable _ _ _ Q.values.held, Q.ground)
+node_arity-requires c = let Q = c.requires in (readable _ _ _ Q.values.held, Q.closed)
 
 pub shape_of-work-then-node_arity-k : goal.shape_of-work-then-node_arity-k
 shape_of-work-then-node_arity-k c = search

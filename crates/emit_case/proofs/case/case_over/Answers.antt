@@ -1,0 +1,27 @@
+-- `case_over` meets its contract.
+use borrow.Author.Rules.{rules}
+use mathlib.Core.Path.{◌∙◌}
+use Rattle.emit_state.specs.Holding.{lends}
+use Rattle.emit_case.specs.Under.{front}
+use Rattle.emit_case.specs.Casing.{key-asked, over_short, over-asked, over_on}
+use Rattle.emit_case.proofs.case.case_over.Goals as goal
+
+pub intern-requires : goal.intern-requires
+intern-requires c =
+    key-asked _ _ _ _ _ _ _ _ _ _ (front c.lay_key-n.result c.lay_key-n.new.key ∙ c.lay_key-n.ensures.1) c.requires
+
+pub prove_supposing-requires : goal.prove_supposing-requires
+prove_supposing-requires c =
+    let I = c.in-As.ensures in
+    over-asked _ _ _ _ _ _ _ _ _ _ _ _ _ (front c.lay_key-n.result c.lay_key-n.new.key ∙ c.lay_key-n.ensures.1) _ _ I c.requires
+
+pub returns-in-As : goal.returns-in-As
+returns-in-As c =
+    let I = c.in-As.ensures in
+    let E = (c.prove_supposing.ensures.answer, c.prove_supposing.ensures.line) in
+    record { answer = over_on _ _ _ _ _ _ _ _ _ _ _ _ _ (front c.lay_key-n.result c.lay_key-n.new.key ∙ c.lay_key-n.ensures.1) _ _ I (lends _ _ _ _) _ E.answer; line = E.line }
+
+pub returns-in-Refused : goal.returns-in-Refused
+returns-in-Refused c =
+    let I = c.in-Refused.ensures in
+    record { answer = over_short _ _ _ _ _ _ _ _ _ _ _ _ _ (front c.lay_key-n.result c.lay_key-n.new.key ∙ c.lay_key-n.ensures.1) _ I; line = tt }

@@ -1,0 +1,19 @@
+-- `case_variables` meets its contract.
+use borrow.Author.Rules.{rules}
+use mathlib.Core.Path.{◌≡◌, refl, ◌∙◌}
+use Prim.Native.Nat.{◌-◌}
+use lib.ListN.{length, length-set}
+use Rattle.emit_state.specs.Holding.{lends}
+use Rattle.emit_case.specs.Inputs.{InputsGo, arity_asked, inputs_go, inputs_end, few_bytes, few_more, place-below, input_asked, sort-asked, inputs_short, inputs_go_on}
+use Rattle.emit_case.proofs.variables.case_variables.Given as goal
+
+abbrev pub invariant-loop-i : goal.invariant-loop-i
+invariant-loop-i l =
+    (length l.work ≡ length l.initial.work)
+    × (length l.words ≡ length l.initial.words)
+    × (length l.proof ≡ length l.initial.proof)
+    × (length l.vs ≡ length l.initial.vs)
+    × InputsGo (lends l.pack l.initial.work l.initial.words l.initial.proof) (lends l.pack l.work l.words l.proof) l.l l.initial.t l.t l.c l.n l.vs l.i
+
+abbrev pub decreases-loop-i : goal.decreases-loop-i
+decreases-loop-i l = l.n - l.i

@@ -1,0 +1,47 @@
+-- `recursive` meets its contract.
+use borrow.Author.Rules.{rules}
+use mathlib.Core.Logic.{inl, inr}
+use Prim.Native.Nat.{◌-◌}
+use native.Mathlib.Omega.{arith}
+use lib.ListN.{length}
+use Rattle.emit_case.specs.Filtering.{FilterGo, filter_go, few_bytes, few_kept, few_more, more-kept, kept-below, sort-within, filter-keep, filter_pass, filter-end}
+use Rattle.emit_case.proofs.variables.recursive.Goals as goal
+
+pub loop-i-init : goal.loop-i-init
+loop-i-init c = filter_go _ _ _ _ _ _ _ c.requires
+
+pub symbol_input-requires : goal.symbol_input-requires
+symbol_input-requires c =
+    let F = c.requires in
+    (F.readable, F.symbol, sort-within _ _ _ _ _ _ _ _ _ c.loop-i.invariant c.loop-i-test.true F.readable)
+
+pub offset_bounds-vs-i : goal.offset_bounds-vs-i
+offset_bounds-vs-i c = record { fits = few_bytes _ _ _ _ _ _ _ _ _ c.loop-i.invariant c.loop-i-test.true }
+
+pub offset_bounds-rs-many : goal.offset_bounds-rs-many
+offset_bounds-rs-many c = record { fits = few_kept _ _ _ _ _ _ _ _ _ c.loop-i.invariant c.loop-i-test.true }
+
+pub bounds-rs-many : goal.bounds-rs-many
+bounds-rs-many c = kept-below _ _ _ _ _ _ _ _ _ c.loop-i.invariant c.loop-i-test.true
+
+pub overflow_add-many : goal.overflow_add-many
+overflow_add-many c = record { fits = more-kept _ _ _ _ _ _ _ _ _ c.loop-i.invariant c.loop-i-test.true }
+
+pub overflow_add-i : goal.overflow_add-i
+overflow_add-i c = record { fits = few_more _ _ _ _ _ _ _ _ _ c.loop-i.invariant c.loop-i-test.true }
+
+pub loop-i-preserved : goal.loop-i-preserved
+loop-i-preserved c =
+    let g = c.loop-i.invariant in
+    let h = c.loop-i-test.true in
+    let N = c.symbol_input.ensures in
+    elim c.if-symbol_input-sort.branch [
+      | inl t ↦ filter-keep _ _ _ _ _ _ _ _ _ g h _ N t.0.taken c.if-symbol_input-sort.rs c.if-symbol_input-sort.many t.2 t.3
+      | inr t ↦ filter_pass _ _ _ _ _ _ _ _ _ g h _ N t.0.left c.if-symbol_input-sort.rs c.if-symbol_input-sort.many t.1 t.2
+    ]
+
+pub shape_of-rs : goal.shape_of-rs
+shape_of-rs c = omega (arith, c.loop-i.invariant.room, c.requires.room)
+
+pub returns : goal.returns
+returns c = filter-end _ _ _ _ _ _ _ _ _ c.loop-i.invariant c.loop-i-test.false

@@ -1,0 +1,22 @@
+-- `put_turn` meets its contract.
+use borrow.Author.Rules.{rules}
+use Rattle.emit_replace.specs.PutRuns.{put_finishable, put_stack, puts_on, puts_done, puts_short}
+use Rattle.emit_replace.proofs.put.put_turn.Goals as goal
+
+pub descend-top-requires : goal.descend-top-requires
+descend-top-requires c = let G = c.requires in (G.0.d, G.1.pending)
+
+pub finish-requires : goal.finish-requires
+finish-requires c = put_finishable _ _ _ _ _ _ _ _ c.requires _ c.descend-top.ensures
+
+pub pop-requires : goal.pop-requires
+pop-requires c = put_stack _ _ _ _ _ _ _ _ c.requires _ c.descend-top.ensures _ _ _ _ c.in-Id.ensures c.finish.auto.words
+
+pub returns-in-Word : goal.returns-in-Word
+returns-in-Word c = puts_on _ _ _ _ _ _ _ _ c.requires _ c.descend-top.ensures _ _ _ _ c.in-Id.ensures c.finish.auto.words _ _ c.in-Word.ensures
+
+pub returns-in-Empty : goal.returns-in-Empty
+returns-in-Empty c = puts_done _ _ _ _ _ _ _ _ c.requires _ c.descend-top.ensures _ _ _ _ c.in-Id.ensures c.finish.auto.words c.in-Empty.ensures
+
+pub returns-in-Short : goal.returns-in-Short
+returns-in-Short c = puts_short _ _ _ _ _ _ _ _ c.requires _ c.descend-top.ensures _ _ c.in-Short.ensures

@@ -1,0 +1,18 @@
+-- `remember` meets its contract.
+use native.Mathlib.Omega.{arith}
+use borrow.Author.Rules.{rules}
+use Rattle.emit_replace.specs.Reading.{values-many}
+use Rattle.emit_replace.proofs.values.remember.Goals as goal
+
+pub put-requires : goal.put-requires
+put-requires c =
+    let f = c.replaced-from.ensures in
+    let t = c.stamp-to.ensures in
+    let many = values-many _ _ c.args.memo c.requires.0 in
+    (omega (arith, f, t), omega (arith, t, c.requires.0.within), rw (f, t) c.requires.1, rw (f, t) (omega (arith, many, c.requires.2)))
+
+pub returns : goal.returns
+returns c =
+    let f = c.replaced-from.ensures in
+    let t = c.stamp-to.ensures in
+    rw (f, t) at c.put.ensures

@@ -1,0 +1,16 @@
+-- `read_list` meets its contract.
+use mathlib.Core.Path.{◌≡◌, refl, ◌∙◌}
+use lib.ListN.{length}
+use Prim.Native.Nat.{◌-◌}
+use native.Mathlib.Omega.{arith}
+use Rattle.pack_tables.specs.SameTables.{Same, same_none, same_then}
+use Rattle.term_lift.specs.Lifts.{Lifts}
+use Rattle.host_walk.specs.Lists.{Reading, begun, ended_there}
+use borrow.Author.Rules.{rules}
+use Rattle.host_walk.proofs.list.read_list.Given as goal
+
+abbrev pub invariant-loop-at : goal.invariant-loop-at
+invariant-loop-at l = (length l.work ≡ length l.initial.work) × (length l.words ≡ length l.initial.words) × Lifts l.pack l.work l.words l.c l.l l.st × Reading l.from l.words l.st l.at × Same l.initial.work l.work l.c
+
+abbrev pub decreases-loop-at : goal.decreases-loop-at
+decreases-loop-at l = length l.from - l.at
