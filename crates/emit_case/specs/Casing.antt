@@ -110,11 +110,11 @@ module _ (pack work words proof work' words' : List ℕ) (l : Places) (m : Stand
         let q : outcome w.lent (interned (over c vs) e) ≡ got term e₂ = ap (λ (n : Node). outcome w.lent (interned n e)) (sym (key-node c vs zs z)) ∙ C.1 in
         let T : Tried ℕ = record { result = some term; state = e₂ } in
         let Q : ℕ → Emitter → Type 0 = λ p e₁. (e₁.undone ≡ e.undone) × Of S.pack S.eigen e.undone.names e₁.kept.store output p in
-        let O = goes_on w.lent S Q (interned (over c vs)) e T (application_comes S P.few e.undone.names c vs e R.sound D.in_case.symbol D.Has-All) q in
+        let O = goes_on w.lent S Q (interned (over c vs)) e T (application_comes S P.few e.undone.names c vs e R.sound D.in_case.symbol D.has_all) q in
         let N = O.holds term refl in
         let Y : Has S e₂ output term = subst (λ u. Of S.pack S.eigen u.names e₂.kept.store output term) (sym N.0) N.1 in
         let G = given_on g w e e₂ O.grew D.in_case.given in
-        let all = has_all_on S e e₂ O.grew inputs vs D.Has-All in
+        let all = has_all_on S e e₂ O.grew inputs vs D.has_all in
         record {
           state = e₂;
           is_so = q;
@@ -158,7 +158,7 @@ sought-asked b l m g c vs rs A room =
     record {
       readable = pack_readable b l m w e H;
       symbol = symbol_record b l m w e H c D.in_case.symbol;
-      many = omega (arith, all_long w.setting e (symbol_of w.setting.pack c).inputs vs D.Has-All);
+      many = omega (arith, all_long w.setting e (symbol_of w.setting.pack c).inputs vs D.has_all);
       few = D.few;
       room = room;
     }

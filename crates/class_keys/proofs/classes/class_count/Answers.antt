@@ -1,5 +1,4 @@
 -- `class_count` meets its contract.
-use borrow.Author.Rules.{rules}
 use Prim.Native.Nat.{◌+◌, ◌*◌}
 use native.Mathlib.Omega.{arith}
 use Rattle.class_keys.proofs.classes.class_count.Goals as goal

@@ -1,5 +1,4 @@
 -- `class_first` meets its contract.
-use borrow.Author.Rules.{rules}
 use Prim.Native.Nat.{◌+◌}
 use native.Mathlib.Omega.{arith}
 use Rattle.class_keys.proofs.classes.class_first.Goals as goal

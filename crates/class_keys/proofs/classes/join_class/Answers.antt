@@ -1,5 +1,4 @@
 -- `join_class` meets its contract.
-use borrow.Author.Rules.{rules}
 use mathlib.Core.Path.{refl}
 use Rattle.class_keys.specs.ClassWords.{joined}
 use Rattle.class_keys.proofs.classes.join_class.Goals as goal

@@ -1,5 +1,4 @@
 -- `step_is_cut` meets its contract.
-use borrow.Author.Rules.{rules}
 use Rattle.class_keys.specs.Firsts.{predicate_inside, not-cut, is_cut}
 use Rattle.class_keys.proofs.cut.step_is_cut.Goals as goal
 

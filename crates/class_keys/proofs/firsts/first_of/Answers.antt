@@ -1,5 +1,4 @@
 -- `first_of` meets its contract.
-use borrow.Author.Rules.{rules}
 use Prim.Native.Nat.{◌+◌}
 use native.Mathlib.Omega.{arith}
 use Rattle.pack_read.specs.Held.{readable}

@@ -1,9 +1,8 @@
 -- `note_firsts` meets its contract: with each turn one step more is noted.
-use borrow.Author.Rules.{rules}
 use Prim.Native.Nat.{◌-◌}
 use native.Mathlib.Omega.{arith}
 use Rattle.pack_read.specs.Held.{readable}
-use Rattle.class_keys.specs.Firsts.{Noting, noting-none, noting-placed, noting-left, noting_small, noting-room, noting-more, noting-all}
+use Rattle.class_keys.specs.Firsts.{noting-none, noting-placed, noting-left, noting_small, noting-room, noting-more, noting-all}
 use Rattle.class_keys.proofs.firsts.note_firsts.Goals as goal
 
 pub count-s-requires : goal.count-s-requires

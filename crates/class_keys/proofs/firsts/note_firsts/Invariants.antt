@@ -1,9 +1,5 @@
 -- `note_firsts` meets its contract: with each turn one step more is noted.
-use borrow.Author.Rules.{rules}
-use Prim.Native.Nat.{◌-◌}
-use native.Mathlib.Omega.{arith}
-use Rattle.pack_read.specs.Held.{readable}
-use Rattle.class_keys.specs.Firsts.{Noting, noting-none, noting-placed, noting-left, noting_small, noting-room, noting-more, noting-all}
+use Rattle.class_keys.specs.Firsts.{Noting}
 use Rattle.class_keys.proofs.firsts.note_firsts.Given as goal
 
 abbrev pub invariant-loop-s : goal.invariant-loop-s

@@ -1,11 +1,9 @@
 -- `write_rule_key` meets its contract: with each turn one word more of the key stands there.
-use borrow.Author.Rules.{rules}
 use mathlib.Core.Path.{sym, ◌∙◌}
-use Prim.Native.Nat.{◌-◌}
 use native.Mathlib.Omega.{arith}
 use lib.ListN.{length-set}
 use Rattle.pack_read.specs.Held.{readable}
-use Rattle.class_keys.specs.Writing.{Writing, writing_first, writing_left, writing_ref, writing_inside, writing_more, writing_all}
+use Rattle.class_keys.specs.Writing.{writing_first, writing_left, writing_ref, writing_inside, writing_more, writing_all}
 use Rattle.class_keys.proofs.key.write_rule_key.Goals as goal
 
 pub step_refs-n-requires : goal.step_refs-n-requires

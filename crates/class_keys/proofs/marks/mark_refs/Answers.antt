@@ -1,14 +1,10 @@
 -- `mark_refs` meets its contract: what is left to be marked gives the whole.
-use borrow.Author.Rules.{rules}
-use mathlib.Core.Path.{◌≡◌, refl, sym, ap, ◌∙◌}
-use mathlib.Core.List.{map}
-use Prim.Native.Nat.{◌-◌}
+use mathlib.Core.Path.{refl, sym, ap, ◌∙◌}
 use native.Mathlib.Omega.{arith}
-use lib.ListN.{length, drop, length-set}
+use lib.ListN.{length-set}
 use Rattle.definition.specs.Pack.{step_of}
 use Rattle.definition.specs.Keys.{first_of}
-use Rattle.pack_read.specs.Held.{OfHeld, readable}
-use Rattle.class_keys.specs.Marks.{mark_all}
+use Rattle.pack_read.specs.Held.{readable}
 use Rattle.class_keys.specs.Marking.{all-turn, all_end, first_inside, ref-given}
 use Rattle.class_keys.proofs.marks.mark_refs.Goals as goal
 

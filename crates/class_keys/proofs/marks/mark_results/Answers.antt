@@ -1,16 +1,13 @@
 -- `mark_results` meets its contract: what is left to be marked gives the whole.
-use borrow.Author.Rules.{rules}
-use mathlib.Core.Path.{◌≡◌, refl, sym, ap, ◌∙◌}
-use mathlib.Core.List.{map}
-use Prim.Native.Nat.{◌-◌}
+use mathlib.Core.Path.{refl, sym, ap, ◌∙◌}
 use native.Mathlib.Omega.{arith}
-use lib.ListN.{length, drop, length-set}
+use lib.ListN.{length-set}
 use Rattle.definition.specs.Pack.{Result}
 use Rattle.definition.specs.Verdict.{no_result}
 use Rattle.pack_read.specs.Reads.{length_results}
 use Rattle.definition.specs.Keys.{first_of}
-use Rattle.pack_read.specs.Held.{OfHeld, readable}
-use Rattle.class_keys.specs.Marks.{mark_all, result_steps}
+use Rattle.pack_read.specs.Held.{readable}
+use Rattle.class_keys.specs.Marks.{result_steps}
 use Rattle.class_keys.specs.Marking.{all-turn, all_end, first_inside, result-given}
 use Rattle.class_keys.proofs.marks.mark_results.Goals as goal
 

@@ -1,5 +1,4 @@
 -- `mark_step` meets its contract.
-use borrow.Author.Rules.{rules}
 use mathlib.Core.Path.{sym, ◌∙◌}
 use Rattle.class_keys.specs.Marking.{step_unmarked, step_cut, step-refs}
 use Rattle.class_keys.proofs.marks.mark_step.Goals as goal

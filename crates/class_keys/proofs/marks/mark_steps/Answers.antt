@@ -1,12 +1,8 @@
 -- `mark_steps` meets its contract: what is left to be marked gives the whole.
-use borrow.Author.Rules.{rules}
-use mathlib.Core.Path.{◌≡◌, refl, sym, ap, ◌∙◌}
-use Prim.Native.Nat.{ℕ, ◌-◌, ◌≤◌}
+use mathlib.Core.Path.{refl, sym, ap, ◌∙◌}
+use Prim.Native.Nat.{ℕ, ◌-◌}
 use native.Mathlib.Omega.{arith}
-use lib.ListN.{length}
-use Rattle.pack_tables.specs.Catalog.{records_of}
 use Rattle.pack_read.specs.Reads.{length_steps}
-use Rattle.pack_read.specs.Held.{OfHeld}
 use Rattle.class_keys.specs.Marks.{mark_below}
 use Rattle.class_keys.specs.Marking.{below-turn, below_end}
 use Rattle.class_keys.proofs.marks.mark_steps.Goals as goal

@@ -1,5 +1,4 @@
 -- `begin` meets its contract.
-use borrow.Author.Rules.{rules}
 use native.Mathlib.Omega.{arith}
 use Rattle.class_keys.specs.ClassWords.{placed}
 use Rattle.class_keys.specs.Turns.{begin-marks, begin-slots, begun-state}

@@ -1,5 +1,4 @@
 -- `clear_slots` meets its contract.
-use borrow.Author.Rules.{rules}
 use Rattle.class_keys.specs.Turns.{cleared}
 use Rattle.class_keys.proofs.steps.clear_slots.Goals as goal
 

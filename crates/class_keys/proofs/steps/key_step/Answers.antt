@@ -1,5 +1,4 @@
 -- `key_step` meets its contract.
-use borrow.Author.Rules.{rules}
 use native.Mathlib.Omega.{arith}
 use Rattle.class_keys.specs.Turns.{tabled, small, turn_out, old_few, old-room, turn-old, new-room, turn-new}
 use Rattle.class_keys.proofs.steps.key_step.Goals as goal

@@ -1,10 +1,8 @@
 -- `key_steps` meets its contract: with each turn one step more has its class.
-use borrow.Author.Rules.{rules}
 use mathlib.Core.Path.{◌∙◌}
-use Prim.Native.Nat.{◌-◌}
 use native.Mathlib.Numerals.{add-one}
 use native.Mathlib.Omega.{arith}
-use Rattle.class_keys.specs.Keyed.{Walked, walked_none, walked_steps, walked_more, ended}
+use Rattle.class_keys.specs.Keyed.{walked_none, walked_steps, walked_more, ended}
 use Rattle.class_keys.proofs.steps.key_steps.Goals as goal
 
 pub loop-s-init : goal.loop-s-init

@@ -1,5 +1,4 @@
 -- `has_key` meets its contract.
-use borrow.Author.Rules.{rules}
 use mathlib.Core.Path.{refl}
 use Rattle.class_keys.specs.Table.{class_room, class_asked, has_class}
 use Rattle.class_keys.proofs.table.has_key.Goals as goal

@@ -1,9 +1,8 @@
 -- `probe` meets its contract: what the search has passed is taken, and not by the key.
-use borrow.Author.Rules.{rules}
 use mathlib.Core.Path.{refl}
-use Prim.Native.Nat.{◌+◌, ◌*◌, ◌-◌}
+use Prim.Native.Nat.{◌+◌, ◌*◌}
 use native.Mathlib.Omega.{arith}
-use Rattle.class_keys.specs.Table.{steps_of, Probing, probing_none, probing_room, probing_free, probing_class, probing_found, probing_more}
+use Rattle.class_keys.specs.Table.{probing_none, probing_room, probing_free, probing_class, probing_found, probing_more}
 use Rattle.class_keys.proofs.table.probe.Goals as goal
 
 pub overflow_mul-a : goal.overflow_mul-a

@@ -1,5 +1,4 @@
 -- `search` meets its contract.
-use borrow.Author.Rules.{rules}
 use mathlib.Core.Path.{refl}
 use native.Mathlib.Omega.{arith}
 use Rattle.class_keys.specs.Table.{asked, steps_small, searching, written-lent, sought}

@@ -1,5 +1,4 @@
 -- `outcome_answer` meets its contract.
-use borrow.Author.Rules.{rules}
 use mathlib.Core.Path.{sym, ap, ◌∙◌}
 use Rattle.definition.specs.Answer.{answer}
 use Rattle.dock_call.specs.Outcome.{refusal_of}

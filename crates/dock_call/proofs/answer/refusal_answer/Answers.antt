@@ -1,5 +1,4 @@
 -- `refusal_answer` meets its contract.
-use borrow.Author.Rules.{rules}
 use mathlib.Core.Path.{sym, ap}
 use Rattle.definition.specs.Answer.{answer_of}
 use Rattle.dock_call.proofs.answer.refusal_answer.Goals as goal

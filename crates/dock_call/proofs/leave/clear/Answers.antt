@@ -1,5 +1,4 @@
 -- `clear` meets its contract.
-use borrow.Author.Rules.{rules}
 use Rattle.dock_call.proofs.leave.clear.Goals as goal
 
 pub returns : goal.returns

@@ -1,5 +1,4 @@
 -- `test_lengths` meets its contract.
-use borrow.Author.Rules.{rules}
 use mathlib.Core.Path.{sym}
 use Rattle.dock_call.specs.Lengths.{lent_of, pack_long, class_long, pattern_long, graph_long, work_long, text_long, goals_long, work_short, all_fit}
 use Rattle.dock_call.proofs.lent.test_lengths.Goals as goal

@@ -1,5 +1,4 @@
 -- `open_pack` meets its contract.
-use borrow.Author.Rules.{rules}
 use mathlib.Core.Path.{sym, ap, ◌∙◌}
 use Rattle.dock_call.specs.Outcome.{refusal_of}
 use Rattle.dock_call.specs.Lengths.{lent_of}

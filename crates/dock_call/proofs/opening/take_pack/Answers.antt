@@ -1,5 +1,4 @@
 -- `take_pack` meets its contract.
-use borrow.Author.Rules.{rules}
 use Rattle.dock_call.proofs.opening.take_pack.Goals as goal
 
 pub returns-in-Fine : goal.returns-in-Fine

@@ -15,5 +15,4 @@ case_over-requires c =
 
 pub returns : goal.returns
 returns c =
-    let E = (c.case_over.ensures.answer, c.case_over.ensures.line) in
-    record { answer = cased_on (lends _ _ _ _) _ _ _ _ _ _ _ c.recursive-many.ensures _ (front c.recursive-many.result c.recursive-many.new.rs) (lends _ _ _ _) _ E.answer; line = E.line }
+    record { answer = cased_on (lends _ _ _ _) _ _ _ _ _ _ _ c.recursive-many.ensures _ (front c.recursive-many.result c.recursive-many.new.rs) (lends _ _ _ _) _ c.case_over.ensures.answer; line = c.case_over.ensures.line }

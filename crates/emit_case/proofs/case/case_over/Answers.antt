@@ -18,8 +18,7 @@ prove_supposing-requires c =
 pub returns-in-As : goal.returns-in-As
 returns-in-As c =
     let I = c.in-As.ensures in
-    let E = (c.prove_supposing.ensures.answer, c.prove_supposing.ensures.line) in
-    record { answer = over_on _ _ _ _ _ _ _ _ _ _ _ _ _ (front c.lay_key-n.result c.lay_key-n.new.key ∙ c.lay_key-n.ensures.1) _ _ I (lends _ _ _ _) _ E.answer; line = E.line }
+    record { answer = over_on _ _ _ _ _ _ _ _ _ _ _ _ _ (front c.lay_key-n.result c.lay_key-n.new.key ∙ c.lay_key-n.ensures.1) _ _ I (lends _ _ _ _) _ c.prove_supposing.ensures.answer; line = c.prove_supposing.ensures.line }
 
 pub returns-in-Refused : goal.returns-in-Refused
 returns-in-Refused c =

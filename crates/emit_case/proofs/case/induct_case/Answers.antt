@@ -47,8 +47,7 @@ shape_of-proof-in-Line c = c.case_of.auto.proof ∙ c.case_variables.auto.proof
 pub returns-in-Line : goal.returns-in-Line
 returns-in-Line c =
     let F = c.in-All.ensures in
-    let E = rw c.in-Line.is at (c.case_of.ensures.answer, c.case_of.ensures.line) in
-    case_line (lends _ _ _ _) (lends _ _ _ _) _ _ _ _ _ _ _ F _ (front c.in-All.n c.case_variables.new.vs) (lends _ _ _ _) _ _ _ _ _ E.0 c.put_case.ensures
+    case_line (lends _ _ _ _) (lends _ _ _ _) _ _ _ _ _ _ _ F _ (front c.in-All.n c.case_variables.new.vs) (lends _ _ _ _) _ _ _ _ _ c.in-Line.ensures.answer c.put_case.ensures
 
 pub shape_of-work-in-Fails : goal.shape_of-work-in-Fails
 shape_of-work-in-Fails c = c.case_of.auto.work ∙ c.case_variables.auto.work
@@ -62,14 +61,12 @@ shape_of-proof-in-Fails c = c.case_of.auto.proof ∙ c.case_variables.auto.proof
 pub returns-in-Fails : goal.returns-in-Fails
 returns-in-Fails c =
     let F = c.in-All.ensures in
-    let E = rw c.in-Fails.is at (c.case_of.ensures.answer, c.case_of.ensures.line) in
-    case_fails (lends _ _ _ _) (lends _ _ _ _) _ _ _ _ _ _ _ F _ (front c.in-All.n c.case_variables.new.vs) (lends _ _ _ _) _ _ _ _ E.0
+    case_fails (lends _ _ _ _) (lends _ _ _ _) _ _ _ _ _ _ _ F _ (front c.in-All.n c.case_variables.new.vs) (lends _ _ _ _) _ _ _ _ c.in-Fails.ensures.answer
 
 pub returns-in-Refused-case_of : goal.returns-in-Refused-case_of
 returns-in-Refused-case_of c =
     let F = c.in-All.ensures in
-    let E = rw c.in-Refused-case_of.is at (c.case_of.ensures.answer, c.case_of.ensures.line) in
-    case_refused (lends _ _ _ _) (lends _ _ _ _) _ _ _ _ _ _ _ F _ (front c.in-All.n c.case_variables.new.vs) (lends _ _ _ _) _ _ _ _ E.0
+    case_refused (lends _ _ _ _) (lends _ _ _ _) _ _ _ _ _ _ _ F _ (front c.in-All.n c.case_variables.new.vs) (lends _ _ _ _) _ _ _ _ c.in-Refused-case_of.ensures.answer
 
 pub returns-in-Refused : goal.returns-in-Refused
 returns-in-Refused c =

@@ -11,16 +11,15 @@ put_for-requires c = put-asked _ _ _ _ _ _ _ _ c.requires
 
 pub chain-requires : goal.chain-requires
 chain-requires c =
-    let F = puts_for (rw c.in-As.is at (c.put_for.ensures.grown, c.put_for.ensures.comes)) in
+    let F = puts_for ((c.in-As.ensures.grown, c.in-As.ensures.comes)) in
     (made-asked _ _ _ _ _ _ _ _ _ _ _ _ F c.requires, omega arith)
 
 pub returns-in-As : goal.returns-in-As
 returns-in-As c =
-    let F = puts_for (rw c.in-As.is at (c.put_for.ensures.grown, c.put_for.ensures.comes)) in
-    let E = (c.chain.ensures.answer, c.chain.ensures.line) in
-    record { answer = goal_on _ _ _ _ _ _ _ _ _ _ _ _ F (lends _ _ _ _) _ E.answer; line = E.line }
+    let F = puts_for ((c.in-As.ensures.grown, c.in-As.ensures.comes)) in
+    record { answer = goal_on _ _ _ _ _ _ _ _ _ _ _ _ F (lends _ _ _ _) _ c.chain.ensures.answer; line = c.chain.ensures.line }
 
 pub returns-in-Refused : goal.returns-in-Refused
 returns-in-Refused c =
-    let F = puts_for (rw c.in-Refused.is at (c.put_for.ensures.grown, c.put_for.ensures.comes)) in
+    let F = puts_for ((c.in-Refused.ensures.grown, c.in-Refused.ensures.comes)) in
     record { answer = goal_short _ _ _ _ _ _ _ _ _ _ _ F; line = tt }

@@ -19,8 +19,7 @@ slice_bounds-drop_hypotheses-end c = omega (arith, c.requires.holds.recursive.fe
 pub drop_hypotheses-requires : goal.drop_hypotheses-requires
 drop_hypotheses-requires c =
     let F = c.in-All.ensures in
-    let E = rw c.in-Line.is at (c.case_goal.ensures.answer, c.case_goal.ensures.line) in
-    line_dropping (lends _ _ _ _) _ _ _ _ _ (lends _ _ _ _) _ _ F (lends _ _ _ _) _ (front (length c.args.rs.now) c.suppose_each.new.hs) _ _ E.0 c.requires
+    line_dropping (lends _ _ _ _) _ _ _ _ _ (lends _ _ _ _) _ _ F (lends _ _ _ _) _ (front (length c.args.rs.now) c.suppose_each.new.hs) _ _ c.in-Line.ensures.answer c.requires
 
 pub slice_bounds-drop_hypotheses-end-in-Fails : goal.slice_bounds-drop_hypotheses-end-in-Fails
 slice_bounds-drop_hypotheses-end-in-Fails c = omega (arith, c.requires.holds.recursive.few, c.suppose_each.auto)
@@ -28,8 +27,7 @@ slice_bounds-drop_hypotheses-end-in-Fails c = omega (arith, c.requires.holds.rec
 pub drop_hypotheses-requires-in-Fails : goal.drop_hypotheses-requires-in-Fails
 drop_hypotheses-requires-in-Fails c =
     let F = c.in-All.ensures in
-    let E = rw c.in-Fails.is at (c.case_goal.ensures.answer, c.case_goal.ensures.line) in
-    fails_dropping (lends _ _ _ _) _ _ _ _ _ (lends _ _ _ _) _ _ F (lends _ _ _ _) _ (front (length c.args.rs.now) c.suppose_each.new.hs) _ E.0 c.requires
+    fails_dropping (lends _ _ _ _) _ _ _ _ _ (lends _ _ _ _) _ _ F (lends _ _ _ _) _ (front (length c.args.rs.now) c.suppose_each.new.hs) _ c.in-Fails.ensures.answer c.requires
 
 pub shape_of-work-in-Line : goal.shape_of-work-in-Line
 shape_of-work-in-Line c = c.drop_hypotheses.auto.work ∙ c.case_goal.auto.work ∙ c.suppose_each.auto.work
@@ -43,8 +41,7 @@ shape_of-proof-in-Line c = c.case_goal.auto.proof ∙ c.suppose_each.auto.proof
 pub returns-in-Line : goal.returns-in-Line
 returns-in-Line c =
     let F = c.in-All.ensures in
-    let E = rw c.in-Line.is at (c.case_goal.ensures.answer, c.case_goal.ensures.line) in
-    record { answer = under-line (lends _ _ _ _) _ _ _ _ _ (lends _ _ _ _) _ _ F (lends _ _ _ _) _ (front (length c.args.rs.now) c.suppose_each.new.hs) _ _ E.0 _ _ c.drop_hypotheses.ensures; line = E.1 }
+    record { answer = under-line (lends _ _ _ _) _ _ _ _ _ (lends _ _ _ _) _ _ F (lends _ _ _ _) _ (front (length c.args.rs.now) c.suppose_each.new.hs) _ _ c.in-Line.ensures.answer _ _ c.drop_hypotheses.ensures; line = c.in-Line.ensures.line }
 
 pub shape_of-work-in-Fails : goal.shape_of-work-in-Fails
 shape_of-work-in-Fails c = c.drop_hypotheses-in-Fails.auto.work ∙ c.case_goal.auto.work ∙ c.suppose_each.auto.work
@@ -58,14 +55,12 @@ shape_of-proof-in-Fails c = c.case_goal.auto.proof ∙ c.suppose_each.auto.proof
 pub returns-in-Fails : goal.returns-in-Fails
 returns-in-Fails c =
     let F = c.in-All.ensures in
-    let E = rw c.in-Fails.is at (c.case_goal.ensures.answer, c.case_goal.ensures.line) in
-    record { answer = under_fails (lends _ _ _ _) _ _ _ _ _ (lends _ _ _ _) _ _ F (lends _ _ _ _) _ (front (length c.args.rs.now) c.suppose_each.new.hs) _ E.0 _ _ c.drop_hypotheses-in-Fails.ensures; line = tt }
+    record { answer = under_fails (lends _ _ _ _) _ _ _ _ _ (lends _ _ _ _) _ _ F (lends _ _ _ _) _ (front (length c.args.rs.now) c.suppose_each.new.hs) _ c.in-Fails.ensures.answer _ _ c.drop_hypotheses-in-Fails.ensures; line = tt }
 
 pub returns-in-Refused-case_goal : goal.returns-in-Refused-case_goal
 returns-in-Refused-case_goal c =
     let F = c.in-All.ensures in
-    let E = rw c.in-Refused-case_goal.is at (c.case_goal.ensures.answer, c.case_goal.ensures.line) in
-    record { answer = under-refused (lends _ _ _ _) _ _ _ _ _ (lends _ _ _ _) _ _ F (lends _ _ _ _) _ E.0; line = tt }
+    record { answer = under-refused (lends _ _ _ _) _ _ _ _ _ (lends _ _ _ _) _ _ F (lends _ _ _ _) _ c.in-Refused-case_goal.ensures.answer; line = tt }
 
 pub returns-in-Refused : goal.returns-in-Refused
 returns-in-Refused c = let F = c.in-Refused.ensures in record { answer = under_short (lends _ _ _ _) _ _ _ _ _ (lends _ _ _ _) _ _ F; line = tt }

@@ -6,6 +6,7 @@ use native.Mathlib.Omega.{arith}
 use lib.ListN.{length}
 use Rattle.emit_case.specs.Filtering.{FilterGo, filter_go, few_bytes, few_kept, few_more, more-kept, kept-below, sort-within, filter-keep, filter_pass, filter-end}
 use Rattle.emit_case.proofs.variables.recursive.Goals as goal
+use Rattle.emit_case.proofs.variables.recursive.Goals.{then-symbol_input-sort, else-symbol_input-sort}
 
 pub loop-i-init : goal.loop-i-init
 loop-i-init c = filter_go _ _ _ _ _ _ _ c.requires
@@ -36,8 +37,8 @@ loop-i-preserved c =
     let h = c.loop-i-test.true in
     let N = c.symbol_input.ensures in
     elim c.if-symbol_input-sort.branch [
-      | inl t ↦ filter-keep _ _ _ _ _ _ _ _ _ g h _ N t.0.taken c.if-symbol_input-sort.rs c.if-symbol_input-sort.many t.2 t.3
-      | inr t ↦ filter_pass _ _ _ _ _ _ _ _ _ g h _ N t.0.left c.if-symbol_input-sort.rs c.if-symbol_input-sort.many t.1 t.2
+      | then-symbol_input-sort w ↦ filter-keep _ _ _ _ _ _ _ _ _ g h _ N w.if-symbol_input-sort.true c.if-symbol_input-sort.rs c.if-symbol_input-sort.many w.rs-is w.many-is
+      | else-symbol_input-sort w ↦ filter_pass _ _ _ _ _ _ _ _ _ g h _ N w.if-symbol_input-sort.false c.if-symbol_input-sort.rs c.if-symbol_input-sort.many w.rs-is w.many-is
     ]
 
 pub shape_of-rs : goal.shape_of-rs

@@ -1,5 +1,4 @@
 -- `case_end` meets its contract.
-use borrow.Author.Rules.{rules}
 use Prim.Native.Nat.{◌+◌}
 use native.Mathlib.Omega.{arith}
 use Rattle.emit_lines.proofs.case.case_end.Goals as goal

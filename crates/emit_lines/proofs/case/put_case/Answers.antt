@@ -1,5 +1,4 @@
 -- `put_case` meets its contract.
-use borrow.Author.Rules.{rules}
 use Rattle.definition.specs.Ascii.{bytes}
 use Rattle.emission.specs.Render.{case_text}
 use Rattle.text_write.specs.Written.{adds_then}

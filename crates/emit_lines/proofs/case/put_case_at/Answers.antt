@@ -1,5 +1,4 @@
 -- `put_case_at` meets its contract.
-use borrow.Author.Rules.{rules}
 use Rattle.text_write.specs.Written.{adds_then, adds_as}
 use Rattle.emit_lines.specs.Cased.{case_at}
 use Rattle.emit_lines.proofs.case.put_case_at.Goals as goal

@@ -1,11 +1,8 @@
 -- `put_cases` meets its contract: with each turn one case more is there.
 use borrow.Author.Rules.{rules}
-use mathlib.Core.Path.{◌≡◌, refl}
-use Prim.Native.Nat.{◌-◌, ◌≤◌}
+use mathlib.Core.Path.{refl}
 use native.Mathlib.Omega.{arith}
-use lib.ListN.{length}
-use Rattle.emission.specs.Name.{name_with}
-use Rattle.emit_lines.specs.Cased.{Cased, cased_none, cased_on, cased_all}
+use Rattle.emit_lines.specs.Cased.{cased_none, cased_on, cased_all}
 use Rattle.emit_lines.proofs.case.put_cases.Goals as goal
 
 pub loop-i-init : goal.loop-i-init

@@ -1,11 +1,9 @@
 -- `put_cases` meets its contract: with each turn one case more is there.
-use borrow.Author.Rules.{rules}
-use mathlib.Core.Path.{◌≡◌, refl}
+use mathlib.Core.Path.{◌≡◌}
 use Prim.Native.Nat.{◌-◌, ◌≤◌}
-use native.Mathlib.Omega.{arith}
 use lib.ListN.{length}
 use Rattle.emission.specs.Name.{name_with}
-use Rattle.emit_lines.specs.Cased.{Cased, cased_none, cased_on, cased_all}
+use Rattle.emit_lines.specs.Cased.{Cased}
 use Rattle.emit_lines.proofs.case.put_cases.Given as goal
 
 abbrev pub invariant-loop-i : goal.invariant-loop-i

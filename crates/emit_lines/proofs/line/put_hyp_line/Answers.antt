@@ -1,5 +1,4 @@
 -- `put_hyp_line` meets its contract.
-use borrow.Author.Rules.{rules}
 use Rattle.definition.specs.Ascii.{bytes}
 use Rattle.text_write.specs.Written.{adds_then, adds_as}
 use Rattle.emit_lines.specs.Lines.{hyp_line_law}

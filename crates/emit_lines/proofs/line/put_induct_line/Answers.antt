@@ -1,5 +1,4 @@
 -- `put_induct_line` meets its contract.
-use borrow.Author.Rules.{rules}
 use Rattle.definition.specs.Ascii.{bytes}
 use Rattle.text_write.specs.Written.{adds_then, adds_as}
 use Rattle.emit_lines.specs.Lines.{induct-line}

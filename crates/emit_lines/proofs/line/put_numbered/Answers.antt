@@ -1,5 +1,4 @@
 -- `put_numbered` meets its contract.
-use borrow.Author.Rules.{rules}
 use Rattle.text_write.specs.Written.{adds_then}
 use Rattle.emit_lines.specs.Lines.{numbered}
 use Rattle.emit_lines.proofs.line.put_numbered.Goals as goal

@@ -1,5 +1,4 @@
 -- `put_result_line` meets its contract.
-use borrow.Author.Rules.{rules}
 use Rattle.definition.specs.Ascii.{bytes}
 use Rattle.emission.specs.Render.{line_text}
 use Rattle.text_write.specs.Written.{adds_then}

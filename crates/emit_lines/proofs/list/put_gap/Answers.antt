@@ -1,5 +1,4 @@
 -- `put_gap` meets its contract.
-use borrow.Author.Rules.{rules}
 use mathlib.Core.Path.{sym}
 use native.Mathlib.Omega.{arith}
 use Rattle.text_write.specs.Written.{adds_none, adds_as}

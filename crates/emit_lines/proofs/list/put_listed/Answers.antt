@@ -1,5 +1,4 @@
 -- `put_listed` meets its contract.
-use borrow.Author.Rules.{rules}
 use Rattle.text_write.specs.Written.{adds_then}
 use Rattle.emit_lines.proofs.list.put_listed.Goals as goal
 

@@ -1,14 +1,14 @@
 -- `put_numbers` meets its contract: with each turn one number more is there.
 use borrow.Author.Rules.{rules}
-use mathlib.Core.Path.{◌≡◌, refl, ap}
+use mathlib.Core.Path.{refl, ap}
 use mathlib.Core.List.{List, map}
-use Prim.Native.Nat.{ℕ, ◌-◌, ◌≤◌}
+use Prim.Native.Nat.{ℕ}
 use native.Mathlib.Omega.{arith}
-use lib.ListN.{length, take}
+use lib.ListN.{take}
 use lib.Seq.{take_all}
 use Rattle.definition.specs.Decimal.{decimal}
 use Rattle.emission.specs.Text.{joined}
-use Rattle.text_write.specs.Written.{Adds, adds_none, adds_then, adds_as}
+use Rattle.text_write.specs.Written.{adds_none, adds_then, adds_as}
 use Rattle.emit_lines.specs.Side.{joined-next}
 use Rattle.emit_lines.proofs.list.put_numbers.Goals as goal
 

@@ -1,5 +1,4 @@
 -- `put_goal` meets its contract.
-use borrow.Author.Rules.{rules}
 use mathlib.Core.Path.{sym}
 use native.Mathlib.Omega.{arith}
 use Rattle.emission.specs.Render.{goal_name}

@@ -1,11 +1,11 @@
 -- `put_name` meets its contract: with each turn one underscore more is there.
 use borrow.Author.Rules.{rules}
 use mathlib.Core.Path.{◌≡◌, refl, ap}
-use Prim.Native.Nat.{ℕ, ◌-◌, ◌≤◌}
+use Prim.Native.Nat.{ℕ}
 use native.Mathlib.Omega.{arith}
-use lib.ListN.{length, replicate}
+use lib.ListN.{replicate}
 use Rattle.emission.specs.Name.{name_with}
-use Rattle.text_write.specs.Written.{Adds, adds_none, adds_then, adds_as}
+use Rattle.text_write.specs.Written.{adds_none, adds_then, adds_as}
 use Rattle.emit_lines.specs.Side.{underscore_next}
 use Rattle.emit_lines.proofs.variable.put_name.Goals as goal
 

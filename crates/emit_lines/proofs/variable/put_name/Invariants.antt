@@ -1,12 +1,8 @@
 -- `put_name` meets its contract: with each turn one underscore more is there.
-use borrow.Author.Rules.{rules}
-use mathlib.Core.Path.{◌≡◌, refl, ap}
-use Prim.Native.Nat.{ℕ, ◌-◌, ◌≤◌}
-use native.Mathlib.Omega.{arith}
+use mathlib.Core.Path.{◌≡◌}
+use Prim.Native.Nat.{◌-◌, ◌≤◌}
 use lib.ListN.{length, replicate}
-use Rattle.emission.specs.Name.{name_with}
-use Rattle.text_write.specs.Written.{Adds, adds_none, adds_then, adds_as}
-use Rattle.emit_lines.specs.Side.{underscore_next}
+use Rattle.text_write.specs.Written.{Adds}
 use Rattle.emit_lines.proofs.variable.put_name.Given as goal
 
 abbrev pub invariant-loop-i : goal.invariant-loop-i

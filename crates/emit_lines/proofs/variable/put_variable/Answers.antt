@@ -1,5 +1,4 @@
 -- `put_variable` meets its contract.
-use borrow.Author.Rules.{rules}
 use native.Mathlib.Omega.{arith}
 use Rattle.text_write.specs.Written.{adds_then, adds_as}
 use Rattle.emit_lines.specs.Words.{variable-first, variable-later}

@@ -1,5 +1,4 @@
 -- `put_blanked_word` meets its contract.
-use borrow.Author.Rules.{rules}
 use Rattle.text_write.specs.Written.{adds_then}
 use Rattle.emit_lines.proofs.word.put_blanked_word.Goals as goal
 

@@ -1,5 +1,4 @@
 -- `put_word` meets its contract.
-use borrow.Author.Rules.{rules}
 use native.Mathlib.Omega.{arith}
 use Rattle.text_write.specs.Written.{adds_as}
 use Rattle.emit_lines.specs.Words.{text_constant, text_defined, text_variable}

@@ -1,17 +1,17 @@
 -- `put_words` meets its contract: with each turn one word more is there.
 use borrow.Author.Rules.{rules}
-use mathlib.Core.Path.{◌≡◌, refl, ap, sym, ◌∙◌}
+use mathlib.Core.Path.{refl, ap, sym, ◌∙◌}
 use mathlib.Core.List.{List, map}
-use Prim.Native.Nat.{ℕ, ◌-◌, ◌≤◌}
+use Prim.Native.Nat.{ℕ}
 use native.Mathlib.Omega.{arith}
-use lib.ListN.{length, take}
+use lib.ListN.{take}
 use lib.Seq.{take_all}
 use Rattle.emission.specs.Name.{name_with}
 use Rattle.emission.specs.Text.{blanked}
 use Rattle.emission.specs.Render.{word_text}
 use Rattle.text_write.specs.Written.{adds_none, adds_then, adds_as}
 use Rattle.emit_lines.specs.Side.{blanked-next}
-use Rattle.emit_lines.specs.Words.{word_in, Puts, words_each}
+use Rattle.emit_lines.specs.Words.{word_in, words_each}
 use Rattle.emit_lines.proofs.word.put_words.Goals as goal
 
 pub loop-i-init : goal.loop-i-init

@@ -1,5 +1,4 @@
 -- `take_abstract` meets its contract.
-use borrow.Author.Rules.{rules}
 use mathlib.Core.Path.{◌∙◌}
 use native.Mathlib.Omega.{arith}
 use Rattle.pack_reader.specs.Taking.{abstracts_unkeyed}

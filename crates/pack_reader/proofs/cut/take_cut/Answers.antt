@@ -1,5 +1,4 @@
 -- `take_cut` meets its contract.
-use borrow.Author.Rules.{rules}
 use native.Mathlib.Omega.{arith}
 use Rattle.pack_reader.specs.Taking.{cuts_unkeyed}
 use Rattle.pack_reader.specs.Sound.{readable}

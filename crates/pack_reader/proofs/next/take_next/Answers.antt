@@ -1,5 +1,4 @@
 -- `take_next` meets its contract.
-use borrow.Author.Rules.{rules}
 use native.Mathlib.Omega.{arith}
 use lib.ListN.{length-drop}
 use Rattle.pack_reader.specs.Walk.{walking_sound, no_record, whole, went_on}

@@ -1,5 +1,4 @@
 -- `take_record` meets its contract.
-use borrow.Author.Rules.{rules}
 use Rattle.pack_reader.specs.Kinds.{a_sort, a_symbol, a_rule, a_node, a_step, a_goal, a_result, a_cut, an_abstract}
 use Rattle.pack_reader.proofs.next.take_record.Goals as goal
 

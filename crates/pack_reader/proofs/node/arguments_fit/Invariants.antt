@@ -1,9 +1,6 @@
 -- `arguments_fit` meets its contract: with each turn the arguments left give the same answer.
-use borrow.Author.Rules.{rules}
 use Prim.Native.Nat.{◌-◌}
-use native.Mathlib.Omega.{arith}
-use Rattle.pack_reader.specs.Sound.{readable}
-use Rattle.pack_reader.specs.Node.{Left, fit_start, argument_headed, input_there, fit_outside, fit_unsorted, fit_turn, fit_end}
+use Rattle.pack_reader.specs.Node.{Left}
 use Rattle.pack_reader.proofs.node.arguments_fit.Given as goal
 
 abbrev pub invariant-loop-i : goal.invariant-loop-i

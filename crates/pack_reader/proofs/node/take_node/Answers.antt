@@ -1,5 +1,4 @@
 -- `take_node` meets its contract.
-use borrow.Author.Rules.{rules}
 use native.Mathlib.Omega.{arith}
 use Rattle.pack_reader.specs.Taking.{nodes-keyed}
 use Rattle.pack_reader.specs.Sound.{readable}

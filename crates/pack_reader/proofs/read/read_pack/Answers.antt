@@ -1,5 +1,4 @@
 -- `read_pack` meets its contract.
-use borrow.Author.Rules.{rules}
 use Rattle.pack_reader.specs.Parsed.{parses_from}
 use Rattle.pack_reader.proofs.read.read_pack.Goals as goal
 

@@ -1,5 +1,4 @@
 -- `take_result` meets its contract.
-use borrow.Author.Rules.{rules}
 use native.Mathlib.Omega.{arith}
 use Rattle.pack_reader.specs.Taking.{results_keyed}
 use Rattle.pack_reader.specs.Named.{rest_misnamed, rest_named}

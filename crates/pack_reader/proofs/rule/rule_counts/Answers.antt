@@ -1,5 +1,4 @@
 -- `rule_counts` meets its contract.
-use borrow.Author.Rules.{rules}
 use native.Mathlib.Omega.{arith}
 use Rattle.pack_reader.specs.Rule.{short_rule, variables_rule, premises-rule, cut-rule, unsorted_rule, counted-rule}
 use mathlib.Core.Bool.{not}

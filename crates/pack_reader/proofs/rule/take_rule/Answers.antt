@@ -1,5 +1,4 @@
 -- `take_rule` meets its contract.
-use borrow.Author.Rules.{rules}
 use native.Mathlib.Omega.{arith}
 use Rattle.pack_tables.specs.Catalog.{records_of}
 use Rattle.pack_reader.specs.Taking.{rules-keyed}

@@ -1,5 +1,4 @@
 -- `take_step` meets its contract.
-use borrow.Author.Rules.{rules}
 use native.Mathlib.Omega.{arith}
 use Rattle.pack_reader.specs.Taking.{steps_unkeyed}
 use Rattle.pack_reader.specs.Sound.{readable}

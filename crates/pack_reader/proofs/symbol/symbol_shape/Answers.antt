@@ -1,5 +1,4 @@
 -- `symbol_shape` meets its contract.
-use borrow.Author.Rules.{rules}
 use native.Mathlib.Omega.{arith}
 use Rattle.pack_reader.specs.Named.{rest_misnamed, rest_named}
 use Rattle.pack_reader.specs.Symbol.{short_symbol, wide_symbol, cut-symbol, outless_symbol, inless_symbol, misnamed_symbol, formed_symbol}

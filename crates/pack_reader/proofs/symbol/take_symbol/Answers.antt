@@ -1,5 +1,4 @@
 -- `take_symbol` meets its contract.
-use borrow.Author.Rules.{rules}
 use native.Mathlib.Omega.{arith}
 use Rattle.pack_reader.specs.Taking.{symbols-keyed}
 use Rattle.pack_reader.specs.Symbol.{many-symbols, wrong_symbol, over-symbol, name_inside, enter_symbol, new-symbol, old-symbol}

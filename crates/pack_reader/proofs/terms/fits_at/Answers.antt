@@ -1,5 +1,4 @@
 -- `fits_at` meets its contract.
-use borrow.Author.Rules.{rules}
 use native.Mathlib.Omega.{arith}
 use Rattle.pack_reader.specs.Reading.{no_variable, a_variable, no_symbol, a_symbol}
 use Rattle.pack_reader.proofs.terms.fits_at.Goals as goal

@@ -1,11 +1,7 @@
 -- `read_terms` meets its contract.
-use borrow.Author.Rules.{rules}
-use mathlib.Core.Path.{refl, sym}
 use Prim.Native.Nat.{◌-◌}
-use native.Mathlib.Omega.{arith}
 use Rattle.pack_tables.specs.Catalog.{records_of}
-use Rattle.pack_reader.specs.TermsTurns.{Onward}
-use Rattle.pack_reader.specs.TermsRun.{Running, run_starts, run_on, run_ends, run_bad, run-over}
+use Rattle.pack_reader.specs.TermsRun.{Running}
 use Rattle.pack_reader.proofs.terms.read_terms.Given as goal
 
 abbrev pub invariant-loop-q : goal.invariant-loop-q

@@ -1,5 +1,4 @@
 -- `read_word` meets its contract.
-use borrow.Author.Rules.{rules}
 use mathlib.Core.Path.{refl}
 use native.Mathlib.Omega.{arith}
 use Rattle.pack_tables.specs.Catalog.{records_of}

@@ -1,0 +1,20 @@
+-- `first_proved` meets its contract.
+use borrow.Author.Rules.{rules}
+use mathlib.Core.Path.{◌≡◌, refl, ◌∙◌}
+use Prim.Native.Nat.{◌-◌}
+use native.Mathlib.Omega.{arith}
+use lib.ListN.{length}
+use Rattle.emit_state.specs.Holding.{lends}
+use Rattle.emit_induct.specs.Choosing.{CandidatesGo, candidates_go, candidates_end, next-asked, next_proves, next-refused, next_fails}
+use Rattle.emit_induct.proofs.candidates.first_proved.Given as goal
+
+abbrev pub invariant-loop-i : goal.invariant-loop-i
+invariant-loop-i l =
+    (length l.work ≡ length l.initial.work)
+    × (length l.words ≡ length l.initial.words)
+    × (length l.proof ≡ length l.initial.proof)
+    × (length l.cases ≡ length l.initial.cases)
+    × CandidatesGo (lends l.pack l.initial.work l.initial.words l.initial.proof) (lends l.pack l.work l.words l.proof) l.l l.initial.t l.t l.x l.args l.candidates l.i
+
+abbrev pub decreases-loop-i : goal.decreases-loop-i
+decreases-loop-i l = length l.candidates - l.i
