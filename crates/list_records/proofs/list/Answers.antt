@@ -1,5 +1,4 @@
 -- `list` meets its contract: the lines with zeros behind them, or zeros alone.
-use borrow.Author.Rules.{rules}
 use Rattle.list_records.specs.Added.{listed, unlisted}
 use Rattle.list_records.proofs.list.Goals as goal
 

@@ -1,9 +1,8 @@
 -- `put_bytes` meets its contract: with each turn the bytes still to be written give the same text.
 use borrow.Author.Rules.{rules}
 use mathlib.Core.Path.{◌≡◌, refl, sym, ◌∙◌}
-use Prim.Native.Nat.{◌≤◌}
 use native.Mathlib.Omega.{arith}
-use lib.ListN.{length, take, length-set}
+use lib.ListN.{length-set}
 use lib.Seq.{take-length}
 use Rattle.buffer.specs.Text.{over, write-fits, write_short}
 use Rattle.list_records.specs.Added.{put-turn, put-end}

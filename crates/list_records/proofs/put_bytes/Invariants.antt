@@ -1,12 +1,8 @@
 -- `put_bytes` meets its contract: with each turn the bytes still to be written give the same text.
-use borrow.Author.Rules.{rules}
-use mathlib.Core.Path.{◌≡◌, refl, sym, ◌∙◌}
+use mathlib.Core.Path.{◌≡◌}
 use Prim.Native.Nat.{◌≤◌}
-use native.Mathlib.Omega.{arith}
-use lib.ListN.{length, take, length-set}
-use lib.Seq.{take-length}
-use Rattle.buffer.specs.Text.{over, write-fits, write_short}
-use Rattle.list_records.specs.Added.{put-turn, put-end}
+use lib.ListN.{length, take}
+use Rattle.buffer.specs.Text.{over}
 use Rattle.list_records.proofs.put_bytes.Given as goal
 
 abbrev pub invariant-loop-j : goal.invariant-loop-j

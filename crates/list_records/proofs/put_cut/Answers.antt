@@ -1,5 +1,4 @@
 -- `put_cut` meets its contract: a field, and the word behind it.
-use borrow.Author.Rules.{rules}
 use Rattle.list_records.specs.Lines.{cut_line}
 use Rattle.list_records.specs.Added.{added_wrote, added_then, added_short}
 use Rattle.list_records.proofs.put_cut.Goals as goal

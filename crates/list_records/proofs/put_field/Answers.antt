@@ -1,5 +1,4 @@
 -- `put_field` meets its contract: the digits, then the byte behind them.
-use borrow.Author.Rules.{rules}
 use native.Mathlib.Omega.{arith}
 use Rattle.list_records.specs.Lines.{field}
 use Rattle.list_records.specs.Added.{added_wrote, added_byte, added_then, added_short, added_full}

@@ -1,5 +1,4 @@
 -- `put_line` meets its contract: three fields, one behind the other.
-use borrow.Author.Rules.{rules}
 use Rattle.list_records.specs.Lines.{line}
 use Rattle.list_records.specs.Added.{added_then, added_short}
 use Rattle.list_records.proofs.put_line.Goals as goal

@@ -1,11 +1,9 @@
 -- `put_lines` meets its contract: the bytes that count and the lines still to come make all lines.
 use borrow.Author.Rules.{rules}
-use mathlib.Core.Path.{◌≡◌, refl, sym, ◌∙◌}
-use mathlib.Core.List.{◌++◌, append-nil}
-use Prim.Native.Nat.{◌-◌, ◌≤◌}
+use mathlib.Core.Path.{refl, sym, ◌∙◌}
+use mathlib.Core.List.{append-nil}
 use native.Mathlib.Omega.{arith}
-use lib.ListN.{length, take}
-use Rattle.list_records.specs.Lines.{lines_from, lines, whole-fits, rest-none, rest-cut, rest-whole}
+use Rattle.list_records.specs.Lines.{lines, whole-fits, rest-none, rest-cut, rest-whole}
 use Rattle.list_records.specs.Added.{added_short, added_first, added_whole, added_left}
 use Rattle.list_records.proofs.put_lines.Goals as goal
 

@@ -1,6 +1,5 @@
 -- `push_arguments` meets its contract: with each turn one argument more stands on the stack.
-use borrow.Author.Rules.{rules}
-use Rattle.emit_match.specs.Pushed.{ArgumentsFrom, arguments_none, arguments_room, arguments_more, arguments_all}
+use Rattle.emit_match.specs.Pushed.{ArgumentsFrom}
 use Rattle.emit_match.proofs.pending.push_arguments.Given as goal
 
 abbrev pub invariant-loop-i : goal.invariant-loop-i

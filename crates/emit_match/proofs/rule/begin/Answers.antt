@@ -1,5 +1,4 @@
 -- `begin` meets its contract.
-use borrow.Author.Rules.{rules}
 use native.Mathlib.Omega.{arith}
 use Rattle.emit_match.specs.Begins.{begun}
 use Rattle.emit_match.proofs.rule.begin.Goals as goal

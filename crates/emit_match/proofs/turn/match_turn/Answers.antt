@@ -1,5 +1,4 @@
 -- `match_turn` meets its contract.
-use borrow.Author.Rules.{rules}
 use native.Mathlib.Omega.{arith}
 use Rattle.pack_read.specs.Held.{readable}
 use Rattle.emit_match.specs.Places.{stays_none, stays_values, given_few}

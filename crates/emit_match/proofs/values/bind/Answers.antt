@@ -1,5 +1,4 @@
 -- `bind` meets its contract: no value yet, or the one that it has.
-use borrow.Author.Rules.{rules}
 use Prim.Native.Nat.{◌+◌}
 use native.Mathlib.Omega.{arith}
 use Rattle.base.specs.Outside.{outside_none, outside_set}

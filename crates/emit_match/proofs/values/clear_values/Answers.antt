@@ -1,5 +1,4 @@
 -- `clear_values` meets its contract.
-use borrow.Author.Rules.{rules}
 use Rattle.emit_match.specs.Values.{cleared-empty, cleared_outside}
 use Rattle.emit_match.proofs.values.clear_values.Goals as goal
 

@@ -1,0 +1,7 @@
+-- `deny` meets its contract.
+use borrow.Author.Rules.{rules}
+use Rattle.host_search.specs.Ends.{told-refused}
+use Rattle.host_search.proofs.answer.deny.Goals as goal
+
+pub returns : goal.returns
+returns c = told-refused _ _ _ _ c.zero_bytes.ensures

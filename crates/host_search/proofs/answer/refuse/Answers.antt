@@ -1,0 +1,7 @@
+-- `refuse` meets its contract.
+use borrow.Author.Rules.{rules}
+use Rattle.host_search.specs.Ends.{refused_as}
+use Rattle.host_search.proofs.answer.refuse.Goals as goal
+
+pub returns : goal.returns
+returns c = refused_as c.args.r _ c.outcome_answer-a.ensures
