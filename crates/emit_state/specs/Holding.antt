@@ -1,5 +1,5 @@
 -- What the buffers hold of emission's state, and what searches in code answer.
-use Rattle.std.specs.Prelude.{◌≡◌, List, [], ℕ, ◌+◌, ◌-◌, ◌/◌, ◌≤◌, ◌<◌, length}
+use Rattle.std.specs.Prelude.{◌≡◌, List, [], ℕ, ◌+◌, ◌/◌, ◌≤◌, ◌<◌, length}
 use Rattle.std.proofs.Math.Option.{none, some}
 use Rattle.definition.specs.Pack.{prop, symbol_of, rule_of}
 use Rattle.definition.specs.Verdict.{Bound}

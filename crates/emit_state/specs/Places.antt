@@ -1,5 +1,5 @@
 -- Where emission has its words in work, by the few numbers that code hands on.
-use Rattle.std.specs.Prelude.{◌≡◌, List, ℕ, ◌+◌, ◌*◌, ◌-◌, ◌≤◌, ◌<◌, length, get_or}
+use Rattle.std.specs.Prelude.{◌≡◌, List, ℕ, ◌+◌, ◌*◌, ◌≤◌, ◌<◌, length, get_or}
 use Rattle.std.proofs.Common.{arith}
 use Rattle.memo.specs.Lent.{lent}
 use Rattle.memo.specs.declared.memo.Memo.{Memo}

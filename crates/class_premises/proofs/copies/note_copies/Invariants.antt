@@ -1,8 +1,6 @@
 -- `note_copies` meets its contract.
-use borrow.Author.Rules.{rules}
 use Prim.Native.Nat.{◌-◌}
-use native.Mathlib.Omega.{arith}
-use Rattle.class_premises.specs.Noted.{Going, going_none, going_noting, going_on, going_done}
+use Rattle.class_premises.specs.Noted.{Going}
 use Rattle.class_premises.proofs.copies.note_copies.Given as goal
 
 abbrev pub invariant-loop-k : goal.invariant-loop-k

@@ -1,5 +1,4 @@
 -- `note_copy` meets its contract.
-use borrow.Author.Rules.{rules}
 use native.Mathlib.Omega.{arith}
 use Rattle.class_premises.specs.Noted.{notes-none, notes-one}
 use Rattle.class_premises.proofs.copies.note_copy.Goals as goal

@@ -1,5 +1,4 @@
 -- `join_premise` meets its contract.
-use borrow.Author.Rules.{rules}
 use mathlib.Core.Path.{refl}
 use Rattle.base.specs.Part.{part}
 use Rattle.class_premises.specs.Joins.{pairs_room, holds, notes-room, joins_noted, joins_on, joins_clash}

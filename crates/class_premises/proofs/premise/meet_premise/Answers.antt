@@ -1,5 +1,4 @@
 -- `meet_premise` meets its contract.
-use borrow.Author.Rules.{rules}
 use Rattle.class_premises.specs.Meets.{meeting_spelt, meeting_asked, meets_short, meeting_joining, meets-joined}
 use Rattle.class_premises.proofs.premise.meet_premise.Goals as goal
 

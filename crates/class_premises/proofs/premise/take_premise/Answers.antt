@@ -1,5 +1,4 @@
 -- `take_premise` meets its contract.
-use borrow.Author.Rules.{rules}
 use Rattle.class_premises.specs.Takes.{taking_copying, takes-full, taking_meeting, takes-met}
 use Rattle.class_premises.proofs.premise.take_premise.Goals as goal
 

@@ -1,5 +1,4 @@
 -- `next_premise` meets its contract.
-use borrow.Author.Rules.{rules}
 use Rattle.class_premises.specs.Asked.{ref-asked, first-asked, word-asked, place-asked, premise_asked, premise_says}
 use Rattle.class_premises.proofs.premises.next_premise.Goals as goal
 

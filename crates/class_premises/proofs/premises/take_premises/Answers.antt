@@ -1,8 +1,6 @@
 -- `take_premises` meets its contract.
-use borrow.Author.Rules.{rules}
-use Prim.Native.Nat.{◌-◌}
 use native.Mathlib.Omega.{arith}
-use Rattle.class_premises.specs.AllPremises.{starting_few, Going, going_none, going_next, going_on, going_refused, going_done}
+use Rattle.class_premises.specs.AllPremises.{starting_few, going_none, going_next, going_on, going_refused, going_done}
 use Rattle.class_premises.proofs.premises.take_premises.Goals as goal
 
 pub loop-i-init : goal.loop-i-init

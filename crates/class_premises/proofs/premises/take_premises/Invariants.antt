@@ -1,8 +1,6 @@
 -- `take_premises` meets its contract.
-use borrow.Author.Rules.{rules}
 use Prim.Native.Nat.{◌-◌}
-use native.Mathlib.Omega.{arith}
-use Rattle.class_premises.specs.AllPremises.{starting_few, Going, going_none, going_next, going_on, going_refused, going_done}
+use Rattle.class_premises.specs.AllPremises.{Going}
 use Rattle.class_premises.proofs.premises.take_premises.Given as goal
 
 abbrev pub invariant-loop-i : goal.invariant-loop-i

@@ -1,5 +1,4 @@
 -- `begin_row` meets its contract: four stores.
-use borrow.Author.Rules.{rules}
 use native.Mathlib.Omega.{arith}
 use lib.ListN.{length-set}
 use Rattle.class_premises.specs.Row.{begun}

@@ -1,5 +1,4 @@
 -- `row_variables` meets its contract.
-use borrow.Author.Rules.{rules}
 use native.Mathlib.Omega.{arith}
 use Prim.Native.Nat.{◌+◌}
 use Rattle.class_premises.proofs.row.row_variables.Goals as goal

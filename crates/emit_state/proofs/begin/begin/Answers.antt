@@ -1,5 +1,4 @@
 -- `begin` meets its contract.
-use borrow.Author.Rules.{rules}
 use Rattle.emit_state.specs.Begun.{emptied_held, emptied_laid, begins}
 use Rattle.emit_state.proofs.begin.begin.Goals as goal
 

@@ -1,5 +1,4 @@
 -- `begin_chains` meets its contract.
-use borrow.Author.Rules.{rules}
 use Rattle.emit_state.specs.Frame.{laid_on}
 use Rattle.emit_state.specs.Begun.{sorts_few, symbols_few, rules_few, rules_laid, constructors_laid, chains_made}
 use Rattle.emit_state.proofs.begin.begin_chains.Goals as goal

@@ -1,5 +1,4 @@
 -- `begin_replaced` meets its contract.
-use borrow.Author.Rules.{rules}
 use Rattle.emit_state.specs.Begin.{unput}
 use Rattle.emit_state.proofs.begin.begin_replaced.Goals as goal
 

@@ -1,5 +1,4 @@
 -- `begin_tables` meets its contract.
-use borrow.Author.Rules.{rules}
 use Rattle.emit_state.specs.Writes.{maps_laid}
 use Rattle.emit_state.specs.Begin.{emptied}
 use Rattle.emit_state.proofs.begin.begin_tables.Goals as goal

@@ -1,5 +1,4 @@
 -- `constructors` meets its contract.
-use borrow.Author.Rules.{rules}
 use Rattle.emit_state.proofs.places.Places.constructors.Goals as goal
 
 pub returns : goal.returns

@@ -1,5 +1,4 @@
 -- `matching` meets its contract.
-use borrow.Author.Rules.{rules}
 use Rattle.emit_state.proofs.places.Places.matching.Goals as goal
 
 pub returns : goal.returns

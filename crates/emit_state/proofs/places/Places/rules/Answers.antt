@@ -1,5 +1,4 @@
 -- `rules` meets its contract.
-use borrow.Author.Rules.{rules}
 use Rattle.emit_state.proofs.places.Places.rules.Goals as goal
 
 pub returns : goal.returns
