@@ -11,7 +11,7 @@ use Rattle.pack_read.specs.Reads.{rule_words}
 use Rattle.pack_read.specs.Held.{Proper}
 use Rattle.emit_maps.specs.Map.{told, told_more, Mapped}
 use Rattle.emit_premises.specs.Open.{Opened, giving, whole-value, whole-nothing, whole_open}
-use Rattle.emit_premises.specs.Frames.{opening, opened, given}
+use Rattle.emit_premises.specs.Frames.{opening, opened}
 use Rattle.emit_premises.specs.Amid.{Amid, wants, room_there, variable-cut, variable_sorted, variable-given, symbol-cut, symbol_sorted, symbol-opened}
 use Rattle.store.specs.Stored.{Stored, nodes}
 use Rattle.emit_premises.specs.Turned.{Goes, Valued, Keeps, StoredBy}

@@ -15,7 +15,7 @@ use Rattle.emission.specs.Patterns.{replace}
 use Rattle.emit_state.specs.Places.{replaced_at, stamp_at, walk_at, values_at, index_end, Laid}
 use Rattle.emit_state.specs.Frame.{laid_on}
 use Rattle.emit_state.specs.declared.places.Places.{Places}
-use Rattle.emit_replace.specs.Again.{under, Rests}
+use Rattle.emit_replace.specs.Again.{Rests}
 use Rattle.emit_replace.specs.Known.{Values, Known, AllKnown, FirstOpen, Waits, waits_few, waits_same}
 use Rattle.emit_replace.specs.Right.{Right, right-same, argument_first}
 use Rattle.emit_replace.specs.Reading.{args_in, values_in, Readable, At, nodes-room}

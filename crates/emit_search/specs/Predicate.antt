@@ -1,5 +1,5 @@
 -- The rules of a predicate as the definition lists them are the numbers with its key.
-use Rattle.std.specs.Prelude.{◌≡◌, refl, true, false, List, [], ◌∷◌, ℕ, suc, ◌+◌, ◌-◌, ◌≤◌, ◌<◌, eqb, length, get_or}
+use Rattle.std.specs.Prelude.{◌≡◌, refl, true, false, List, [], ◌∷◌, ℕ, suc, ◌+◌, ◌≤◌, ◌<◌, eqb, length, get_or}
 use Rattle.std.proofs.Common.{sym, ap, ◌∙◌, arith}
 use Rattle.definition.specs.Test.{is, see}
 use Rattle.definition.specs.Pack.{prop, Term, var, app, Rule, Pack, no_node, no_rule as missing, rule_of}

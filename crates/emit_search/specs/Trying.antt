@@ -1,5 +1,5 @@
 -- What the functions of the search's cycle ask and answer.
-use Rattle.std.specs.Prelude.{List, ◌++◌, ℕ, ◌+◌, ◌-◌, ◌≤◌, ◌<◌, length}
+use Rattle.std.specs.Prelude.{List, ◌++◌, ℕ, ◌-◌, ◌≤◌, ◌<◌, length}
 use Rattle.definition.specs.Pack.{prop, most_premises}
 use Rattle.definition.specs.Run.{outcome}
 use Rattle.emission.specs.State.{Emitter, Setting, Search, ◌>>=◌}

@@ -1,5 +1,4 @@
 -- `conclude` meets its contract.
-use borrow.Author.Rules.{rules}
 use Rattle.class_conclude.specs.Concludes.{held_pack, conclude_spelt, conclude_asked, conclude_full, conclude_topping, concludes}
 use Rattle.class_conclude.proofs.conclude.conclude.Goals as goal
 

@@ -1,5 +1,4 @@
 -- `read_top` meets its contract.
-use borrow.Author.Rules.{rules}
 use Rattle.class_conclude.specs.Counted.{counted-asked, counted}
 use Rattle.class_conclude.proofs.conclude.read_top.Goals as goal
 

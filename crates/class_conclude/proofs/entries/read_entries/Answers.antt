@@ -1,8 +1,7 @@
 -- `read_entries` meets its contract.
 use borrow.Author.Rules.{rules}
-use Prim.Native.Nat.{◌-◌}
 use native.Mathlib.Omega.{arith}
-use Rattle.class_conclude.specs.Entries.{Going, going_none, going_asked, going_on, going_short, going_done}
+use Rattle.class_conclude.specs.Entries.{going_none, going_asked, going_on, going_short, going_done}
 use Rattle.class_conclude.proofs.entries.read_entries.Goals as goal
 
 pub loop-i-init : goal.loop-i-init

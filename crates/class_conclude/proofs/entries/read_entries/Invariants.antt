@@ -1,8 +1,6 @@
 -- `read_entries` meets its contract.
-use borrow.Author.Rules.{rules}
 use Prim.Native.Nat.{◌-◌}
-use native.Mathlib.Omega.{arith}
-use Rattle.class_conclude.specs.Entries.{Going, going_none, going_asked, going_on, going_short, going_done}
+use Rattle.class_conclude.specs.Entries.{Going}
 use Rattle.class_conclude.proofs.entries.read_entries.Given as goal
 
 abbrev pub invariant-loop-i : goal.invariant-loop-i

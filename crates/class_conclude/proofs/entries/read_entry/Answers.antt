@@ -1,5 +1,4 @@
 -- `read_entry` meets its contract.
-use borrow.Author.Rules.{rules}
 use Rattle.class_conclude.specs.Entries.{one-stored, one-indexed, one_reads}
 use Rattle.class_conclude.proofs.entries.read_entry.Goals as goal
 

@@ -1,5 +1,4 @@
 -- `renames` meets its contract.
-use borrow.Author.Rules.{rules}
 use Rattle.base.specs.Part.{part}
 use Rattle.store.specs.Stored.{nodes}
 use Rattle.class_conclude.specs.Entries.{renames_in, renames_out}

@@ -1,8 +1,6 @@
 -- `count_coloured` meets its contract.
-use borrow.Author.Rules.{rules}
-use Prim.Native.Nat.{◌-◌}
 use native.Mathlib.Omega.{arith}
-use Rattle.class_conclude.specs.Fixed.{asked_few, Looked, looked_none, looked_on, looked_all}
+use Rattle.class_conclude.specs.Fixed.{asked_few, looked_none, looked_on, looked_all}
 use Rattle.class_conclude.proofs.fixed.count_coloured.Goals as goal
 
 pub loop-x-init : goal.loop-x-init

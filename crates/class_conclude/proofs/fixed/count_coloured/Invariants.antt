@@ -1,8 +1,6 @@
 -- `count_coloured` meets its contract.
-use borrow.Author.Rules.{rules}
 use Prim.Native.Nat.{◌-◌}
-use native.Mathlib.Omega.{arith}
-use Rattle.class_conclude.specs.Fixed.{asked_few, Looked, looked_none, looked_on, looked_all}
+use Rattle.class_conclude.specs.Fixed.{Looked}
 use Rattle.class_conclude.proofs.fixed.count_coloured.Given as goal
 
 abbrev pub invariant-loop-x : goal.invariant-loop-x

@@ -1,5 +1,4 @@
 -- `count_fixed` meets its contract.
-use borrow.Author.Rules.{rules}
 use native.Mathlib.Omega.{arith}
 use Rattle.class_conclude.specs.FixedWhole.{numbers-room, cleared-asked, marked_in, counts-fixed}
 use Rattle.class_conclude.proofs.fixed.count_fixed.Goals as goal

@@ -1,5 +1,4 @@
 -- `fixes` meets its contract.
-use borrow.Author.Rules.{rules}
 use native.Mathlib.Omega.{arith}
 use Rattle.class_conclude.specs.Fixed.{asked-room, linked, headed, flexed, unvalued, coloured, fixed}
 use mathlib.Core.Bool.{not}

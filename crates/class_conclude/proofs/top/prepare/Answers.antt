@@ -1,5 +1,4 @@
 -- `prepare` meets its contract.
-use borrow.Author.Rules.{rules}
 use Rattle.class_conclude.specs.Top.{prepares}
 use Rattle.class_conclude.proofs.top.prepare.Goals as goal
 

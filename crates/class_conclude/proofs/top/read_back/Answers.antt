@@ -1,5 +1,4 @@
 -- `read_back` meets its contract.
-use borrow.Author.Rules.{rules}
 use mathlib.Core.Path.{◌∙◌}
 use Rattle.class_conclude.specs.Top.{topping_room}
 use Rattle.class_conclude.specs.Back.{back_ready, back_full, back-asked, back_short, back_read}

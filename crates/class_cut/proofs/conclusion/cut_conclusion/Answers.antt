@@ -1,5 +1,4 @@
 -- `cut_conclusion` meets its contract: the variables, then the predicate over them.
-use borrow.Author.Rules.{rules}
 use native.Mathlib.Omega.{arith}
 use Rattle.class_cut.specs.Fresh.{lifts_few, lifts_indexed}
 use Rattle.class_cut.specs.Conclusion.{concludes_none, concludes_lent, concludes}

@@ -1,8 +1,6 @@
 -- `fresh_variables` meets its contract: with each turn what is left gives the same variables.
-use borrow.Author.Rules.{rules}
-use Prim.Native.Nat.{◌-◌}
 use native.Mathlib.Omega.{arith}
-use Rattle.class_cut.specs.Fresh.{Goes, starts_few, goes_none, goes_all, goes_readable, goes_symbol, goes_input, goes_short, goes_more, lifts_indexed}
+use Rattle.class_cut.specs.Fresh.{starts_few, goes_none, goes_all, goes_readable, goes_symbol, goes_input, goes_short, goes_more, lifts_indexed}
 use Rattle.class_cut.proofs.conclusion.fresh_variables.Goals as goal
 
 pub loop-k-init : goal.loop-k-init

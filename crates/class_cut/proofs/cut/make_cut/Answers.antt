@@ -1,5 +1,4 @@
 -- `make_cut` meets its contract: the conclusion is in the store, then the row is written.
-use borrow.Author.Rules.{rules}
 use mathlib.Core.Path.{refl, ◌∙◌}
 use native.Mathlib.Omega.{arith}
 use Rattle.class_cut.specs.Making.{asks_symbol, asks_short, asked-readable, asked-symbol, asked_few, asked_short, asked_writing, asked-places, asked-rows, asked-done}

@@ -1,8 +1,6 @@
 -- `put_marks` meets its contract: with each turn one mark more is 1.
-use borrow.Author.Rules.{rules}
 use Prim.Native.Nat.{◌-◌}
-use native.Mathlib.Omega.{arith}
-use Rattle.class_cut.specs.Marks.{Marked, marked-none, marked_more}
+use Rattle.class_cut.specs.Marks.{Marked}
 use Rattle.class_cut.proofs.row.put_marks.Given as goal
 
 abbrev pub invariant-loop-j : goal.invariant-loop-j

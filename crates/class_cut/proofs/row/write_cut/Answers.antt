@@ -1,5 +1,4 @@
 -- `write_cut` meets its contract: the row is begun, then marked.
-use borrow.Author.Rules.{rules}
 use Prim.Native.Nat.{◌+◌, ◌*◌}
 use native.Mathlib.Omega.{arith}
 use Rattle.class_cut.specs.Marks.{writing_begins, writes}

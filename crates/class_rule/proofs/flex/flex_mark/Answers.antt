@@ -1,5 +1,4 @@
 -- `flex_mark` meets its contract.
-use borrow.Author.Rules.{rules}
 use Rattle.class_rule.specs.Flex.{flex_laid, mark_set, mark-none}
 use Rattle.class_rule.proofs.flex.flex_mark.Goals as goal
 

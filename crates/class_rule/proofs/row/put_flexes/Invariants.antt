@@ -1,8 +1,6 @@
 -- `put_flexes` meets its contract.
-use borrow.Author.Rules.{rules}
 use Prim.Native.Nat.{◌-◌}
-use native.Mathlib.Omega.{arith}
-use Rattle.class_rule.specs.Marks.{Marked, marked-none, marking_there, marking_asked, marking_small, marked_more, marked_all}
+use Rattle.class_rule.specs.Marks.{Marked}
 use Rattle.class_rule.proofs.row.put_flexes.Given as goal
 
 abbrev pub invariant-loop-j : goal.invariant-loop-j

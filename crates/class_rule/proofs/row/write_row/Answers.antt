@@ -1,5 +1,4 @@
 -- `write_row` meets its contract.
-use borrow.Author.Rules.{rules}
 use Prim.Native.Nat.{◌+◌, ◌*◌}
 use native.Mathlib.Omega.{arith}
 use Rattle.class_rule.specs.Marks.{writing_begins, writing_marks, writes}

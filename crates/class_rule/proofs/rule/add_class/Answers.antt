@@ -1,5 +1,4 @@
 -- `add_class` meets its contract.
-use borrow.Author.Rules.{rules}
 use mathlib.Core.Path.{sym, ◌∙◌}
 use native.Mathlib.Omega.{arith}
 use Rattle.class_rule.specs.Ended.{ended_read}

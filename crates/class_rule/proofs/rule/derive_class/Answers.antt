@@ -1,5 +1,4 @@
 -- `derive_class` meets its contract.
-use borrow.Author.Rules.{rules}
 use Rattle.class_rule.specs.Making.{making_solves, makes_refused, making-adds, makes}
 use Rattle.class_rule.proofs.rule.derive_class.Goals as goal
 

@@ -1,5 +1,4 @@
 -- `make_rule` meets its contract.
-use borrow.Author.Rules.{rules}
 use mathlib.Core.Path.{refl}
 use native.Mathlib.Omega.{arith}
 use Rattle.class_rule.specs.Making.{making_few, making_derives}

@@ -1,5 +1,4 @@
 -- `with_refusal` meets its contract.
-use borrow.Author.Rules.{rules}
 use mathlib.Core.Path.{sym, ap}
 use Rattle.class_rule.specs.Ended.{ended_as}
 use Rattle.class_rule.proofs.rule.with_refusal.Goals as goal

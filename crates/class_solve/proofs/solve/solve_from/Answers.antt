@@ -1,5 +1,4 @@
 -- `solve_from` meets its contract.
-use borrow.Author.Rules.{rules}
 use Rattle.class_solve.specs.Solves.{from-refused, from-valuing, from-values}
 use Rattle.class_solve.proofs.solve.solve_from.Goals as goal
 

@@ -1,5 +1,4 @@
 -- `solve_premises` meets its contract.
-use borrow.Author.Rules.{rules}
 use Rattle.class_solve.specs.Solves.{solving_opens, solves_full, solving_starts, solves_from}
 use Rattle.class_solve.proofs.solve.solve_premises.Goals as goal
 

@@ -1,8 +1,6 @@
 -- `fix_each` meets its contract.
-use borrow.Author.Rules.{rules}
-use Prim.Native.Nat.{◌-◌}
 use native.Mathlib.Omega.{arith}
-use Rattle.class_solve.specs.AllValues.{starting_few, Going, going_none, going_asks, going_on, going_stop, going_done}
+use Rattle.class_solve.specs.AllValues.{starting_few, going_none, going_asks, going_on, going_stop, going_done}
 use Rattle.class_solve.proofs.values.fix_each.Goals as goal
 
 pub loop-i-init : goal.loop-i-init

@@ -1,8 +1,6 @@
 -- `fix_each` meets its contract.
-use borrow.Author.Rules.{rules}
 use Prim.Native.Nat.{◌-◌}
-use native.Mathlib.Omega.{arith}
-use Rattle.class_solve.specs.AllValues.{starting_few, Going, going_none, going_asks, going_on, going_stop, going_done}
+use Rattle.class_solve.specs.AllValues.{Going}
 use Rattle.class_solve.proofs.values.fix_each.Given as goal
 
 abbrev pub invariant-loop-i : goal.invariant-loop-i

@@ -1,5 +1,4 @@
 -- `fix_premise` meets its contract.
-use borrow.Author.Rules.{rules}
 use Rattle.class_solve.specs.OneValue.{ref-asked, judgment-asked, node-asked, gives}
 use Rattle.class_solve.proofs.values.fix_premise.Goals as goal
 

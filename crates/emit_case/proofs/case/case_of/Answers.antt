@@ -1,5 +1,4 @@
 -- `case_of` meets its contract.
-use borrow.Author.Rules.{rules}
 use mathlib.Core.Path.{refl}
 use Rattle.emit_state.specs.Holding.{lends}
 use Rattle.emit_case.specs.Under.{front}

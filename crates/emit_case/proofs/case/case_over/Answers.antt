@@ -1,5 +1,4 @@
 -- `case_over` meets its contract.
-use borrow.Author.Rules.{rules}
 use mathlib.Core.Path.{◌∙◌}
 use Rattle.emit_state.specs.Holding.{lends}
 use Rattle.emit_case.specs.Under.{front}

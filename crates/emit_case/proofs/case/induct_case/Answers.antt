@@ -1,5 +1,4 @@
 -- `induct_case` meets its contract.
-use borrow.Author.Rules.{rules}
 use mathlib.Core.Path.{◌∙◌}
 use native.Mathlib.Omega.{arith}
 use Rattle.emit_state.specs.Holding.{lends}

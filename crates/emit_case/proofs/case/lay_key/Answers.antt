@@ -1,5 +1,4 @@
 -- `lay_key` meets its contract.
-use borrow.Author.Rules.{rules}
 use mathlib.Core.Path.{refl}
 use Rattle.emit_case.specs.Laying.{key-room, key_laid, key_long}
 use Rattle.emit_case.proofs.case.lay_key.Goals as goal

@@ -1,10 +1,8 @@
 -- `put_case` meets its contract.
-use borrow.Author.Rules.{rules}
 use mathlib.Core.Path.{◌∙◌}
-use Prim.Native.Nat.{◌-◌}
 use native.Mathlib.Omega.{arith}
 use lib.ListN.{length-set}
-use Rattle.emit_case.specs.Laying.{CaseGo, case_go, next-below, case_more, begun_long, case_end}
+use Rattle.emit_case.specs.Laying.{case_go, next-below, case_more, begun_long, case_end}
 use Rattle.emit_case.proofs.case.put_case.Goals as goal
 
 pub bounds-cases-at-2 : goal.bounds-cases-at-2

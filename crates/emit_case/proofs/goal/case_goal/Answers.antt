@@ -3,7 +3,6 @@ use native.Mathlib.Omega.{arith}
 use Rattle.emit_state.specs.Holding.{lends}
 use Rattle.emit_case.specs.Leaves.{puts_for}
 use Rattle.emit_case.specs.Putting.{put-asked, made-asked, goal_on, goal_short}
-use borrow.Author.Rules.{rules}
 use Rattle.emit_case.proofs.goal.case_goal.Goals as goal
 
 pub put_for-requires : goal.put_for-requires

@@ -1,6 +1,5 @@
 -- `intern` meets its contract.
 use Rattle.emit_case.specs.Interning.{interns_as_to, interns_short_to}
-use borrow.Author.Rules.{rules}
 use Rattle.emit_case.proofs.intern.intern.Goals as goal
 
 pub intern-requires : goal.intern-requires

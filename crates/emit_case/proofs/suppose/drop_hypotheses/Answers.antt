@@ -2,7 +2,6 @@
 use native.Mathlib.Omega.{arith}
 use Rattle.emit_state.specs.Writes.{maps_laid}
 use Rattle.emit_case.specs.Hypotheses.{hyps_failed, dropped}
-use borrow.Author.Rules.{rules}
 use Rattle.emit_case.proofs.suppose.drop_hypotheses.Goals as goal
 
 pub drop_hyps-requires : goal.drop_hyps-requires

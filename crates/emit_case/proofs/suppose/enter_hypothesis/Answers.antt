@@ -4,7 +4,6 @@ use native.Mathlib.Omega.{arith}
 use Rattle.emit_maps.specs.declared.maps.Maps.{Maps}
 use Rattle.emit_state.specs.Writes.{maps_laid}
 use Rattle.emit_case.specs.Hypotheses.{hyps_failed, entered}
-use borrow.Author.Rules.{rules}
 use Rattle.emit_case.proofs.suppose.enter_hypothesis.Goals as goal
 
 pub enter_hyp-requires : goal.enter_hyp-requires

@@ -4,7 +4,6 @@ use native.Mathlib.Omega.{arith}
 use lib.ListN.{length}
 use Rattle.emit_state.specs.Holding.{lends}
 use Rattle.emit_case.specs.Under.{front, each_asked, goal-asked, under_short, under-refused, line_dropping, under-line, fails_dropping, under_fails}
-use borrow.Author.Rules.{rules}
 use Rattle.emit_case.proofs.suppose.prove_supposing.Goals as goal
 
 pub suppose_each-requires : goal.suppose_each-requires

@@ -1,10 +1,8 @@
 -- `suppose_each` meets its contract.
-use mathlib.Core.Path.{◌≡◌, refl, ◌∙◌}
-use Prim.Native.Nat.{◌-◌}
-use lib.ListN.{length, length-set}
+use mathlib.Core.Path.{refl, ◌∙◌}
+use lib.ListN.{length-set}
 use Rattle.emit_state.specs.Holding.{lends}
-use Rattle.emit_case.specs.EachGoes.{EachGoes, each_goes, each_end, each_place, each_short, each_more, next-asked, few_bytes, few_more}
-use borrow.Author.Rules.{rules}
+use Rattle.emit_case.specs.EachGoes.{each_goes, each_end, each_place, each_short, each_more, next-asked, few_bytes, few_more}
 use Rattle.emit_case.proofs.suppose.suppose_each.Goals as goal
 
 pub loop-i-init : goal.loop-i-init

@@ -1,10 +1,9 @@
 -- `suppose_each` meets its contract.
-use mathlib.Core.Path.{◌≡◌, refl, ◌∙◌}
+use mathlib.Core.Path.{◌≡◌}
 use Prim.Native.Nat.{◌-◌}
-use lib.ListN.{length, length-set}
+use lib.ListN.{length}
 use Rattle.emit_state.specs.Holding.{lends}
-use Rattle.emit_case.specs.EachGoes.{EachGoes, each_goes, each_end, each_place, each_short, each_more, next-asked, few_bytes, few_more}
-use borrow.Author.Rules.{rules}
+use Rattle.emit_case.specs.EachGoes.{EachGoes}
 use Rattle.emit_case.proofs.suppose.suppose_each.Given as goal
 
 abbrev pub invariant-loop-i : goal.invariant-loop-i

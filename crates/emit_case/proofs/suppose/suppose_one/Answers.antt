@@ -3,7 +3,6 @@ use mathlib.Core.Path.{◌∙◌}
 use Rattle.emit_case.specs.Leaves.{puts_for}
 use Rattle.emit_case.specs.Putting.{put-asked, made-asked}
 use Rattle.emit_case.specs.One.{entering, one_entered, one_unheld, one_short}
-use borrow.Author.Rules.{rules}
 use Rattle.emit_case.proofs.suppose.suppose_one.Goals as goal
 
 pub put_for-requires : goal.put_for-requires

@@ -1,5 +1,4 @@
 -- `case_variable` meets its contract.
-use borrow.Author.Rules.{rules}
 use native.Mathlib.Omega.{arith}
 use Rattle.emit_state.specs.Holding.{lends}
 use Rattle.emit_case.specs.Naming.{asked_small}

@@ -1,10 +1,8 @@
 -- `case_variables` meets its contract.
-use borrow.Author.Rules.{rules}
-use mathlib.Core.Path.{◌≡◌, refl, ◌∙◌}
-use Prim.Native.Nat.{◌-◌}
-use lib.ListN.{length, length-set}
+use mathlib.Core.Path.{refl, ◌∙◌}
+use lib.ListN.{length-set}
 use Rattle.emit_state.specs.Holding.{lends}
-use Rattle.emit_case.specs.Inputs.{InputsGo, arity_asked, inputs_go, inputs_end, few_bytes, few_more, place-below, input_asked, sort-asked, inputs_short, inputs_go_on}
+use Rattle.emit_case.specs.Inputs.{arity_asked, inputs_go, inputs_end, few_bytes, few_more, place-below, input_asked, sort-asked, inputs_short, inputs_go_on}
 use Rattle.emit_case.proofs.variables.case_variables.Goals as goal
 
 pub symbol_arity-n-requires : goal.symbol_arity-n-requires

@@ -1,10 +1,6 @@
 -- `recursive` meets its contract.
-use borrow.Author.Rules.{rules}
-use mathlib.Core.Logic.{inl, inr}
-use Prim.Native.Nat.{◌-◌}
 use native.Mathlib.Omega.{arith}
-use lib.ListN.{length}
-use Rattle.emit_case.specs.Filtering.{FilterGo, filter_go, few_bytes, few_kept, few_more, more-kept, kept-below, sort-within, filter-keep, filter_pass, filter-end}
+use Rattle.emit_case.specs.Filtering.{filter_go, few_bytes, few_kept, few_more, more-kept, kept-below, sort-within, filter-keep, filter_pass, filter-end}
 use Rattle.emit_case.proofs.variables.recursive.Goals as goal
 use Rattle.emit_case.proofs.variables.recursive.Goals.{then-symbol_input-sort, else-symbol_input-sort}
 

@@ -5,7 +5,6 @@ use mathlib.Core.Path.{refl, subst}
 use Rattle.definition.specs.Pack.{rule_of}
 use Rattle.emit_premises.specs.Ended.{Ends}
 use Rattle.emit_premises.specs.Begun.{begun-asked, begun_amid, begun-whole, finished}
-use borrow.Author.Rules.{rules}
 use Rattle.emit_premises.proofs.build.build_premises.Goals as goal
 
 pub begin-b-requires : goal.begin-b-requires

@@ -1,8 +1,6 @@
 -- `build_words` meets its contract.
 use native.Mathlib.Omega.{arith}
-use Rattle.emit_premises.specs.Amid.{to_come}
-use Rattle.emit_premises.specs.Goings.{Going, going_none, going_asked, going_less, going_more, going_full, going_lacks, going_short}
-use borrow.Author.Rules.{rules}
+use Rattle.emit_premises.specs.Goings.{going_none, going_asked, going_less, going_more, going_full, going_lacks, going_short}
 use Rattle.emit_premises.proofs.build.build_words.Goals as goal
 
 pub loop-next-init : goal.loop-next-init

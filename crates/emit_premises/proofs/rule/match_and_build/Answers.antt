@@ -5,7 +5,6 @@ use mathlib.Core.Path.{◌∙◌}
 use Rattle.pack_read.specs.Held.{readable}
 use Rattle.emit_premises.specs.Readied.{ready_small, ready_given, ready_pattern, ready_site}
 use Rattle.emit_premises.specs.Answered.{matched_to, built_by, answered-none, answered-asked, answered_few, answered-all, answered_lacks, answered_short}
-use borrow.Author.Rules.{rules}
 use mathlib.Core.Bool.{not}
 use Rattle.std.proofs.Common.{ap}
 use Rattle.emit_premises.proofs.rule.match_and_build.Goals as goal

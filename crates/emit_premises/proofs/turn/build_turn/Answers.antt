@@ -5,7 +5,6 @@ use Rattle.base.specs.Outside.{outside_none}
 use Rattle.emit_premises.specs.Amid.{room_there}
 use Rattle.emit_premises.specs.Reading.{kept-stored}
 use Rattle.emit_premises.specs.Closing.{done_goes, close_goes}
-use borrow.Author.Rules.{rules}
 use Rattle.emit_premises.proofs.turn.build_turn.Goals as goal
 
 pub overflow_cast-full : goal.overflow_cast-full

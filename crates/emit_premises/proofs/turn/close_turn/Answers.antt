@@ -1,7 +1,6 @@
 -- `close_turn` meets its contract.
 use native.Mathlib.Omega.{arith}
 use Rattle.emit_premises.specs.Closing.{key_some, closed_made, closed_short}
-use borrow.Author.Rules.{rules}
 use Rattle.emit_premises.proofs.turn.close_turn.Goals as goal
 
 pub intern-requires : goal.intern-requires

@@ -7,7 +7,6 @@ use Rattle.pack_read.specs.Held.{readable}
 use Rattle.emit_premises.specs.Amid.{word_there, room_there}
 use Rattle.emit_premises.specs.Reading.{symbol-below, symbol_goes, variable-below, variable_goes, valued_keeps}
 use Rattle.emit_premises.specs.declared.building.Building.{Building}
-use borrow.Author.Rules.{rules}
 use Rattle.emit_premises.proofs.turn.read_turn.Goals as goal
 
 pub rule_word-w-requires : goal.rule_word-w-requires

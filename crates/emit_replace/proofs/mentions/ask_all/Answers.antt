@@ -1,11 +1,8 @@
 -- `ask_all` meets its contract.
 use mathlib.Core.Path.{ap, ◌∙◌}
 use Prim.Native.Nat.{ℕ}
-use borrow.Author.Rules.{rules}
 use Rattle.base.specs.declared.stack.Stack.{Stack}
-use Rattle.emit_replace.specs.Known.{gaps}
-use Rattle.emit_replace.specs.Reading.{values_in}
-use Rattle.emit_replace.specs.AskTurns.{AsksSince, since_none, since_asked, since_more, since_done}
+use Rattle.emit_replace.specs.AskTurns.{since_none, since_asked, since_more, since_done}
 use Rattle.emit_replace.proofs.mentions.ask_all.Goals as goal
 
 -- an empty stack there

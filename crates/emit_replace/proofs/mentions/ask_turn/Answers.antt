@@ -1,5 +1,4 @@
 -- `ask_turn` meets its contract.
-use borrow.Author.Rules.{rules}
 use Rattle.emit_replace.specs.AskTurns.{ask_at, ask_remembers, ask_stack, asks_on, asks_done}
 use Rattle.emit_replace.proofs.mentions.ask_turn.Goals as goal
 

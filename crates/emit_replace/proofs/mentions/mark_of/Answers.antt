@@ -1,13 +1,9 @@
 -- `mark_of` meets its contract.
-use mathlib.Core.Path.{◌≡◌, sym, ap, ◌∙◌}
-use Prim.Native.Nat.{ℕ, ◌-◌, ◌≤◌, ◌<◌}
+use mathlib.Core.Path.{sym, ap, ◌∙◌}
 use native.Mathlib.Omega.{arith}
 use native.Mathlib.Decide.{ℕ_discrete}
-use lib.ListN.{get_or}
-use borrow.Author.Rules.{rules}
-use Rattle.emit_replace.specs.Known.{value_of}
 use Rattle.emit_replace.specs.Mentions.{bit, any_none, any_some}
-use Rattle.emit_replace.specs.Reading.{args_in, values_in, args-room}
+use Rattle.emit_replace.specs.Reading.{args-room}
 use Rattle.emit_replace.proofs.mentions.mark_of.Goals as goal
 
 pub arguments-n-requires : goal.arguments-n-requires

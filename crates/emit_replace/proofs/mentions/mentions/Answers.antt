@@ -1,5 +1,4 @@
 -- `mentions` meets its contract.
-use borrow.Author.Rules.{rules}
 use Rattle.emit_replace.specs.Beginning.{ready_begins}
 use Rattle.emit_replace.specs.Telling.{tells_itself, tells_asks, tells}
 use Rattle.emit_replace.proofs.mentions.mentions.Goals as goal

@@ -1,5 +1,4 @@
 -- `finish` meets its contract.
-use borrow.Author.Rules.{rules}
 use Rattle.emit_replace.specs.Making.{finish_remembers, finished}
 use Rattle.emit_replace.proofs.put.finish.Goals as goal
 

@@ -1,13 +1,10 @@
 -- `key_of` meets its contract: with each turn one word more of the key stands there.
 use mathlib.Core.Path.{◌≡◌, sym, ap, ◌∙◌}
-use Prim.Native.Nat.{ℕ, ◌+◌, ◌-◌, ◌≤◌}
+use Prim.Native.Nat.{ℕ, ◌+◌}
 use native.Mathlib.Omega.{arith}
-use lib.ListN.{get_or, take}
-use borrow.Author.Rules.{rules}
-use Rattle.definition.specs.Pack.{no_node}
-use Rattle.store.specs.Stored.{nodes}
-use Rattle.emit_replace.specs.Keys.{Keying, keying_first, keying_more, keying_all}
-use Rattle.emit_replace.specs.Reading.{args_in, values_in, args-room}
+use lib.ListN.{take}
+use Rattle.emit_replace.specs.Keys.{keying_first, keying_more, keying_all}
+use Rattle.emit_replace.specs.Reading.{args-room}
 use Rattle.emit_replace.proofs.put.key_of.Goals as goal
 
 pub arguments-n-requires : goal.arguments-n-requires

@@ -1,7 +1,6 @@
 -- `make` meets its contract.
 use mathlib.Core.Path.{refl, sym, ◌∙◌}
 use native.Mathlib.Omega.{arith}
-use borrow.Author.Rules.{rules}
 use Rattle.emit_replace.specs.Making.{made-bare, key-lent, key_some, makes}
 use Rattle.emit_replace.proofs.put.make.Goals as goal
 

@@ -1,11 +1,7 @@
 -- `put_all` meets its contract.
-use mathlib.Core.Path.{refl, ap, ◌∙◌}
-use Prim.Native.Nat.{ℕ}
-use borrow.Author.Rules.{rules}
-use Rattle.base.specs.declared.stack.Stack.{Stack}
 use Rattle.emit_replace.specs.Known.{gaps}
 use Rattle.emit_replace.specs.Reading.{values_in}
-use Rattle.emit_replace.specs.PutRuns.{PutsSince, puts_none, puts_asked, puts_more, puts_all, puts_all_short}
+use Rattle.emit_replace.specs.PutRuns.{PutsSince}
 use Rattle.emit_replace.proofs.put.put_all.Given as goal
 
 abbrev pub invariant-loop-more : goal.invariant-loop-more

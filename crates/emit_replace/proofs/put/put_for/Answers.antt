@@ -1,6 +1,5 @@
 -- `put_for` meets its contract.
 use native.Mathlib.Omega.{arith}
-use borrow.Author.Rules.{rules}
 use Rattle.emit_replace.specs.Beginning.{ready_begins}
 use Rattle.emit_replace.specs.Answers.{put_going, replaces_itself, replaces_as, replaces_short}
 use Rattle.emit_replace.proofs.put.put_for.Goals as goal

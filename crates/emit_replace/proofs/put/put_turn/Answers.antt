@@ -1,5 +1,4 @@
 -- `put_turn` meets its contract.
-use borrow.Author.Rules.{rules}
 use Rattle.emit_replace.specs.PutRuns.{put_finishable, put_stack, puts_on, puts_done, puts_short}
 use Rattle.emit_replace.proofs.put.put_turn.Goals as goal
 

@@ -4,7 +4,6 @@ use mathlib.Core.List.{List}
 use Prim.Native.Nat.{ℕ}
 use native.Mathlib.Omega.{arith}
 use lib.ListN.{length, get_or}
-use borrow.Author.Rules.{rules}
 use Rattle.emit_replace.specs.Reading.{some_below}
 use Rattle.emit_replace.proofs.values.argument.Goals as goal
 

@@ -2,7 +2,6 @@
 use mathlib.Core.Path.{sym, ap, ◌∙◌}
 use native.Mathlib.Omega.{arith}
 use lib.ListN.{length}
-use borrow.Author.Rules.{rules}
 use Rattle.emit_replace.specs.Reading.{none_below, all-below}
 use Rattle.emit_replace.proofs.values.arguments.Goals as goal
 

@@ -1,6 +1,5 @@
 -- `begin` meets its contract.
 use native.Mathlib.Omega.{arith}
-use borrow.Author.Rules.{rules}
 use Rattle.emit_replace.specs.Reading.{values-many, stamped_laid, stamped_remembers, begun}
 use Rattle.emit_replace.proofs.values.begin.Goals as goal
 

@@ -1,6 +1,5 @@
 -- `remember` meets its contract.
 use native.Mathlib.Omega.{arith}
-use borrow.Author.Rules.{rules}
 use Rattle.emit_replace.specs.Reading.{values-many}
 use Rattle.emit_replace.proofs.values.remember.Goals as goal
 

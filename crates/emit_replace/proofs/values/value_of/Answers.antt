@@ -1,6 +1,5 @@
 -- `value_of` meets its contract.
 use mathlib.Core.Path.{ap}
-use borrow.Author.Rules.{rules}
 use Rattle.emit_replace.specs.Known.{valued}
 use Rattle.emit_replace.proofs.values.value_of.Goals as goal
 

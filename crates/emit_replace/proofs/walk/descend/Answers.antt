@@ -1,8 +1,7 @@
 -- `descend` meets its contract.
 use native.Mathlib.Omega.{arith}
-use borrow.Author.Rules.{rules}
 use Rattle.emit_replace.specs.Reading.{args_in}
-use Rattle.emit_replace.specs.Walking.{Descending, pending-at, pending-room, open_less, descending_none, descending_more, ripe_before}
+use Rattle.emit_replace.specs.Walking.{pending-at, pending-room, open_less, descending_none, descending_more, ripe_before}
 use Rattle.emit_replace.proofs.walk.descend.Goals as goal
 
 pub loop-a-init : goal.loop-a-init

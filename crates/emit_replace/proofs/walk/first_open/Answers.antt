@@ -1,10 +1,7 @@
 -- `first_open` meets its contract.
 use mathlib.Core.Path.{sym}
-use Prim.Native.Nat.{ℕ, ◌-◌, ◌≤◌, ◌<◌}
 use native.Mathlib.Omega.{arith}
-use lib.ListN.{get_or}
-use borrow.Author.Rules.{rules}
-use Rattle.emit_replace.specs.Known.{Known, known_more}
+use Rattle.emit_replace.specs.Known.{known_more}
 use Rattle.emit_replace.specs.Reading.{args_in, values_in, args-room}
 use Rattle.emit_replace.proofs.walk.first_open.Goals as goal
 

@@ -1,7 +1,6 @@
 -- `gives_up` meets its contract.
 use mathlib.Core.Path.{sym}
 use native.Mathlib.Omega.{arith}
-use borrow.Author.Rules.{rules}
 use Rattle.emit_search.specs.Failed.{deep, failed_many, given-up}
 use Rattle.emit_search.proofs.failed.gives_up.Goals as goal
 

@@ -1,6 +1,5 @@
 -- `note_failed` meets its contract.
 use native.Mathlib.Omega.{arith}
-use borrow.Author.Rules.{rules}
 use Rattle.emit_search.specs.Failed.{failed_many, noted-none, noted-put}
 use Rattle.emit_search.proofs.failed.note_failed.Goals as goal
 

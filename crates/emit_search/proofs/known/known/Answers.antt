@@ -1,7 +1,6 @@
 -- `known` meets its contract.
 use mathlib.Core.Path.{ap}
 use native.Mathlib.Omega.{arith}
-use borrow.Author.Rules.{rules}
 use Rattle.emit_maps.specs.declared.maps.Maps.{Maps}
 use Rattle.emit_search.specs.Known.{recalls_proved, recalls_supposed}
 use Rattle.emit_search.proofs.known.known.Goals as goal

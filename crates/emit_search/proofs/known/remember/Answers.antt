@@ -1,7 +1,6 @@
 -- `remember` meets its contract.
 use mathlib.Core.Path.{ap}
 use native.Mathlib.Omega.{arith}
-use borrow.Author.Rules.{rules}
 use Rattle.emit_maps.specs.declared.maps.Maps.{Maps}
 use Rattle.emit_state.specs.Writes.{maps_laid}
 use Rattle.emit_search.specs.Known.{entered_failed, remembered_under, remembered_alone}

@@ -1,13 +1,8 @@
-use borrow.Author.Rules.{rules}
-use mathlib.Core.Path.{◌≡◌, refl, ◌∙◌}
-use Prim.Native.Nat.{ℕ, ◌+◌, ◌*◌, ◌-◌, ◌<◌}
-use native.Mathlib.Omega.{arith}
-use lib.ListN.{length, length-set}
+use mathlib.Core.Path.{◌≡◌}
+use Prim.Native.Nat.{◌+◌, ◌*◌, ◌-◌}
+use lib.ListN.{length}
 use Rattle.emit_state.specs.Holding.{lends}
-use Rattle.emit_state.specs.Writes.{maps_laid}
-use Rattle.emit_search.specs.Going.{RulesGo, rules_go, rules-end, rule-asked, rules-line, rules_short, next-asked, rules_less, rules_go_on, PremisesGo, premises_go, step-asked, premises-end, deeper-asked, few_bytes, few_more, premises-fail, premises_short, premises_go_on}
-use Rattle.emit_search.specs.Asking.{failing, asked-room, asked-headed}
-use Rattle.emit_search.specs.Answering.{wrote_lined, front, deep_enough, deeper_enough, less_all, less_rule, less_chain, less_prove, remember_asked, note-asked, rule_short, rule_fails, all_asked, rule_goes_on, answers_known, answers_given-up, answers_refused, answers_proved, answers_failed}
+use Rattle.emit_search.specs.Going.{RulesGo, PremisesGo}
 use Rattle.emit_search.proofs.prove.+by_rule_chain_prove_all_prove_premise.Given as goal
 
 abbrev pub decreases-by_rule : goal.decreases-by_rule

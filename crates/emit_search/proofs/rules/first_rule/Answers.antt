@@ -1,5 +1,4 @@
 -- `first_rule` meets its contract.
-use borrow.Author.Rules.{rules}
 use Rattle.emit_state.specs.Frame.{rules-within}
 use Rattle.emit_search.proofs.rules.first_rule.Goals as goal
 

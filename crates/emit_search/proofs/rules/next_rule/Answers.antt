@@ -1,5 +1,4 @@
 -- `next_rule` meets its contract.
-use borrow.Author.Rules.{rules}
 use Rattle.emit_state.specs.Frame.{rules-within}
 use Rattle.emit_search.proofs.rules.next_rule.Goals as goal
 

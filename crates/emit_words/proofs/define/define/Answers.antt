@@ -1,5 +1,4 @@
 -- `define` meets its contract.
-use borrow.Author.Rules.{rules}
 use mathlib.Core.Path.{refl}
 use native.Mathlib.Omega.{arith}
 use Rattle.emit_state.specs.Writes.{maps_laid}

@@ -1,9 +1,6 @@
 -- `first_lacking` meets its contract.
-use borrow.Author.Rules.{rules}
-use Prim.Native.Nat.{◌≤◌, ◌-◌}
 use native.Mathlib.Omega.{arith}
-use lib.ListN.{length}
-use Rattle.emit_words.specs.Gathering.{Passed, passed_none, passed_more, passed_found, passed_all}
+use Rattle.emit_words.specs.Gathering.{passed_none, passed_more, passed_found, passed_all}
 use Rattle.emit_words.proofs.gather.first_lacking.Goals as goal
 
 pub loop-i-init : goal.loop-i-init

@@ -1,9 +1,7 @@
 -- `first_lacking` meets its contract.
-use borrow.Author.Rules.{rules}
 use Prim.Native.Nat.{◌≤◌, ◌-◌}
-use native.Mathlib.Omega.{arith}
 use lib.ListN.{length}
-use Rattle.emit_words.specs.Gathering.{Passed, passed_none, passed_more, passed_found, passed_all}
+use Rattle.emit_words.specs.Gathering.{Passed}
 use Rattle.emit_words.proofs.gather.first_lacking.Given as goal
 
 abbrev pub invariant-loop-i : goal.invariant-loop-i

@@ -1,10 +1,8 @@
 -- `gather` meets its contract.
 use borrow.Author.Rules.{rules}
-use Prim.Native.Nat.{◌≤◌, ◌-◌}
+use Prim.Native.Nat.{◌-◌}
 use native.Mathlib.Omega.{arith}
-use mathlib.Core.Path.{◌≡◌, refl}
-use lib.ListN.{length, drop}
-use Rattle.emit_words.specs.Spelling.{Gathered}
+use mathlib.Core.Path.{refl}
 use Rattle.emit_words.specs.Gathering.{gathered_none, gathered_more, gathered_all}
 use Rattle.emit_words.proofs.gather.gather.Goals as goal
 

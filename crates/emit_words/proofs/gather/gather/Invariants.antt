@@ -1,11 +1,8 @@
 -- `gather` meets its contract.
-use borrow.Author.Rules.{rules}
 use Prim.Native.Nat.{◌≤◌, ◌-◌}
-use native.Mathlib.Omega.{arith}
-use mathlib.Core.Path.{◌≡◌, refl}
+use mathlib.Core.Path.{◌≡◌}
 use lib.ListN.{length, drop}
 use Rattle.emit_words.specs.Spelling.{Gathered}
-use Rattle.emit_words.specs.Gathering.{gathered_none, gathered_more, gathered_all}
 use Rattle.emit_words.proofs.gather.gather.Given as goal
 
 abbrev pub invariant-loop-i : goal.invariant-loop-i

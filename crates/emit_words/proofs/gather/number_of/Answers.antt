@@ -1,5 +1,4 @@
 -- `number_of` meets its contract.
-use borrow.Author.Rules.{rules}
 use Rattle.emit_words.specs.Gathering.{number_is, number_none}
 use Rattle.emit_words.proofs.gather.number_of.Goals as goal
 

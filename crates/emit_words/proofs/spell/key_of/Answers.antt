@@ -1,5 +1,4 @@
 -- `key_of` meets its contract.
-use borrow.Author.Rules.{rules}
 use native.Mathlib.Omega.{arith}
 use Rattle.base.specs.Part.{part}
 use Rattle.emit_state.specs.Places.{small_places}

@@ -1,5 +1,4 @@
 -- `word_of` meets its contract.
-use borrow.Author.Rules.{rules}
 use native.Mathlib.Omega.{arith}
 use Rattle.emit_state.specs.Writes.{maps_laid}
 use Rattle.emit_words.specs.Spelling.{pattern_room}

@@ -1,5 +1,4 @@
 -- `name_and_put` meets its contract.
-use borrow.Author.Rules.{rules}
 use Rattle.emission.specs.Line.{step_line_of}
 use Rattle.emission.specs.Words.{step}
 use Rattle.emit_words.specs.Readying.{readied_placed}

@@ -1,5 +1,4 @@
 -- `put_induct` meets its contract.
-use borrow.Author.Rules.{rules}
 use native.Mathlib.Omega.{arith}
 use Prim.Native.Nat.{◌-◌}
 use Rattle.emission.specs.Line.{induct_line}

@@ -1,5 +1,4 @@
 -- `write_hyp` meets its contract.
-use borrow.Author.Rules.{rules}
 use Rattle.emission.specs.Line.{hyp_line}
 use Rattle.emit_words.specs.Readying.{readied_placed}
 use Rattle.emit_words.specs.Numbering.{count_hyp, placed_steps}

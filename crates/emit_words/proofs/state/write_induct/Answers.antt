@@ -1,5 +1,4 @@
 -- `write_induct` meets its contract.
-use borrow.Author.Rules.{rules}
 use native.Mathlib.Omega.{arith}
 use Rattle.emission.specs.Line.{induct_line}
 use Rattle.emit_lines.specs.Cases.{cases_in}

@@ -1,5 +1,4 @@
 -- `finish` meets its contract.
-use borrow.Author.Rules.{rules}
 use Rattle.emit_words.specs.Turning.{turn-done, turn_definable, turn_defined, turn_short}
 use Rattle.emit_words.proofs.walk.finish.Goals as goal
 

@@ -1,12 +1,8 @@
 -- `name_words` meets its contract: with each turn there is as much to do as at first.
-use borrow.Author.Rules.{rules}
-use mathlib.Core.Path.{◌≡◌, refl}
+use mathlib.Core.Path.{refl}
 use native.Mathlib.Omega.{arith}
-use lib.ListN.{length}
-use Rattle.emit_state.specs.Holding.{lends}
 use Rattle.emit_state.specs.Places.{small_places}
-use Rattle.emit_words.specs.Walking.{left}
-use Rattle.emit_words.specs.Readying.{Reached, reached_none, reached_walking, reached_more, reached_done, reached_short}
+use Rattle.emit_words.specs.Readying.{reached_none, reached_walking, reached_more, reached_done, reached_short}
 use Rattle.emit_words.proofs.walk.name_words.Goals as goal
 
 pub walk-requires : goal.walk-requires

@@ -1,5 +1,4 @@
 -- `take_turn` meets its contract.
-use borrow.Author.Rules.{rules}
 use native.Mathlib.Omega.{arith}
 use Rattle.emit_words.specs.Putting.{placed-all}
 use Rattle.emit_words.specs.Walking.{stack_room, top_knows, top_placed}

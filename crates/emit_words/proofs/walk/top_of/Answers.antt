@@ -1,5 +1,4 @@
 -- `top_of` meets its contract.
-use borrow.Author.Rules.{rules}
 use mathlib.Core.Path.{sym, ap}
 use Rattle.emit_words.specs.Pending.{top_of}
 use Rattle.emit_words.proofs.walk.top_of.Goals as goal

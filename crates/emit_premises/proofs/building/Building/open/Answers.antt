@@ -1,9 +1,6 @@
 -- `open` meets its contract.
 use native.Mathlib.Omega.{arith}
 use lib.ListN.{length-set}
-use borrow.Author.Rules.{rules}
-use Rattle.emit_premises.proofs.building.Building.open.Reads as reads
-use Rattle.emit_premises.proofs.building.Building.open.Lts as lts
 use Rattle.emit_premises.proofs.building.Building.open.Goals as goal
 
 pub bounds-stack-end : goal.bounds-stack-end
