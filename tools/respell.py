@@ -1,5 +1,5 @@
 #!/usr/bin/env python3
-"""Brings the repository's own definitions and lemmas to today's spelling, once, behind /opt/rattle/port/port.py.
+"""Brings the repository's own definitions and lemmas to today's spelling, once, behind the kit's port.py.
 
 usage: python3 tools/respell.py          rewrites crates/*/{specs,proofs,src,must-fail}, and prints what it left
        python3 tools/respell.py --names  prints each old and new name and writes nothing

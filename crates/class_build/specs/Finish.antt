@@ -5,8 +5,7 @@ use Rattle.definition.specs.Pack.{Pack}
 use Rattle.definition.specs.Classes.{Built}
 use Rattle.definition.specs.Figures.{figures}
 use Rattle.definition.specs.declared.Figures.{Figures}
-use Rattle.base.specs.Outside.{Outside}
-use Rattle.base.specs.Upto.{Upto, upto_outside}
+use Rattle.base.specs.Upto.{Upto}
 use Rattle.store.specs.Words.{words-most}
 use Rattle.store.specs.Stored.{nodes}
 use Rattle.store.specs.declared.nodes.Store.{Store}

@@ -1,6 +1,6 @@
 -- What showing the goals comes to ahead of clearing: the definition's run in the lengths lent.
 use Rattle.std.specs.Prelude.{◌≡◌, refl, List, ℕ, ◌≤◌, ◌<◌, length, take}
-use Rattle.std.proofs.Common.{sym, ap, ◌∙◌, arith}
+use Rattle.std.proofs.Common.{sym, ◌∙◌, arith}
 use Rattle.std.proofs.Math.Option.{none, some}
 use Rattle.definition.specs.Pack.{Pack}
 use Rattle.definition.specs.Frame.{Read, fine, refuse}
@@ -14,16 +14,15 @@ use Rattle.definition.specs.Calls.{Shown, show_run, called, show_lent}
 use Rattle.definition.specs.declared.Figures.{Figures}
 use Rattle.definition.specs.declared.Refusal.{Refusal}
 use Rattle.pack_tables.specs.declared.catalog.Catalog.{Catalog}
-use Rattle.pack_reader.specs.Parsed.{Room, Represents, tables_of}
+use Rattle.pack_reader.specs.Parsed.{Represents, tables_of}
 use Rattle.pack_reader.specs.Said.{represents_said}
 use Rattle.dock_call.specs.Lengths.{lengths_fit}
 use Rattle.dock_call.specs.Opening.{room}
-use Rattle.class_build.specs.Ready.{Opened}
 use Rattle.text_goals.specs.Shows.{LendsText, Answered, Shows}
 use Rattle.text_goals.specs.declared.goal.Budgets.{Budgets}
 use Rattle.text_goals.specs.declared.show.Answer.{Answer}
 use Rattle.text_goals.specs.declared.show.Answer.TheVariants as shown
-use Rattle.dock.specs.Comes.{Spacious as Building, runs_opened}
+use Rattle.dock.specs.Comes.{Spacious as Building}
 
 -- work has room for what the run spends, and no buffer is too long
 pub record Spacious (bytes class pattern graph work text : List ℕ) : Type 0 where

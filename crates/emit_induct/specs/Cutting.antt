@@ -6,7 +6,6 @@ use mathlib.Core.List.{List, []}
 use Rattle.std.proofs.Math.Option.{Option, none, some}
 use Rattle.definition.specs.Test.{is, see, never}
 use Rattle.definition.specs.Pack.{prop}
-use Rattle.definition.specs.Store.{nothing}
 use Rattle.definition.specs.Verdict.{Bound, value_of}
 use Rattle.definition.specs.Frame.{Read, fine, refuse}
 use Rattle.definition.specs.Run.{outcome}

@@ -8,7 +8,6 @@ use native.Mathlib.Omega.{arith}
 use Rattle.std.proofs.Math.Decide.{ℕ_discrete}
 use Rattle.std.proofs.Math.ListN.{length}
 use Rattle.definition.specs.Graph.{Grown, cells as cells_of}
-use Rattle.definition.specs.Analysis.{copied}
 use Rattle.definition.specs.Store.{nothing}
 use Rattle.base.specs.Part.{part, put, part_same, length_part, length-put, part-put, put-before}
 use Rattle.base.specs.declared.id.Node.{Node as Id}

@@ -24,15 +24,5 @@ pub extern "C" fn copy_pattern(
 ) -> Walked
     ensures { ◌≡◌ {A = Left} (record { answer = result; patterns = patterns.new; cells = cells.new; work = work.new }) (copy_leaves pack.now from.now flex.now p copies read (length patterns.old) (length cells.old) (length work.old)) }
 {
-    copies::copy_pattern(
-        pack,
-        from,
-        flex,
-        p,
-        copies,
-        read,
-        patterns,
-        cells,
-        work,
-    )
+    copies::copy_pattern(pack, from, flex, p, copies, read, patterns, cells, work)
 }

@@ -1,6 +1,6 @@
 -- All goals when all classes are made: what showing them asks, and promises.
 use Rattle.std.specs.Prelude.{◌≡◌, List, ℕ, ◌+◌, ◌*◌, ◌≤◌, ◌<◌, length, get_or}
-use Rattle.std.proofs.Common.{ap, ◌∙◌, arith}
+use Rattle.std.proofs.Common.{ap, arith}
 use Rattle.definition.specs.Pack.{Pack}
 use Rattle.definition.specs.Frame.{fine, refuse}
 use Rattle.definition.specs.Answer.{Lent}
@@ -17,7 +17,7 @@ use Rattle.pack_tables.specs.Catalog.{records_of}
 use Rattle.pack_tables.specs.SameTables.{same-records}
 use Rattle.class_premises.specs.declared.building.Building.{Building}
 use Rattle.term_instance.specs.declared.tables.Instance.{Instance}
-use Rattle.class_build.specs.Tests.{Made, OfMade, made-values, made-given, begun_kept, begun_read}
+use Rattle.class_build.specs.Tests.{Made, OfMade, made-given, begun_kept, begun_read}
 use Rattle.text_write.specs.Written.{Adds}
 use Rattle.text_goals.specs.Showable.{Showable}
 use Rattle.text_goals.specs.EachShown.{ShowsEach}

@@ -1,10 +1,10 @@
 -- The end of the call's run: the goals shown and the figures, when all classes are made.
-use Rattle.std.specs.Prelude.{◌≡◌, refl, List, [], ℕ, ◌+◌, ◌*◌, ◌≤◌, ◌<◌, length, get_or, take}
-use Rattle.std.proofs.Common.{sym, ap, subst, ◌∙◌, arith}
+use Rattle.std.specs.Prelude.{◌≡◌, refl, List, [], ℕ, ◌≤◌, ◌<◌, length, take}
+use Rattle.std.proofs.Common.{sym, subst, arith}
 use Rattle.definition.specs.Pack.{Pack}
 use Rattle.definition.specs.Frame.{fine, refuse}
 use Rattle.definition.specs.Answer.{Lent}
-use Rattle.definition.specs.Classes.{Built, no_class}
+use Rattle.definition.specs.Classes.{Built}
 use Rattle.definition.specs.Figures.{figures}
 use Rattle.definition.specs.Run.{outcome}
 use Rattle.definition.specs.Goals.{Root, test_goals}
@@ -12,10 +12,6 @@ use Rattle.definition.specs.Shown.{shown_text}
 use Rattle.definition.specs.declared.Figures.{Figures}
 use Rattle.definition.specs.declared.Refusal.{Refusal}
 use Rattle.definition.specs.declared.Refusal.TheVariants as refusals
-use Rattle.base.specs.Upto.{Upto}
-use Rattle.store.specs.Stored.{nodes}
-use Rattle.pack_tables.specs.Catalog.{records_of}
-use Rattle.pack_read.specs.Reads.{length-nodes}
 use Rattle.class_keys.specs.declared.classes.Counts.{Counts}
 use Rattle.class_premises.specs.declared.building.Building.{Building}
 use Rattle.class_premises.specs.declared.building.Counted.{Counted}
@@ -25,7 +21,7 @@ use Rattle.class_build.specs.GoalTables.{test_tables}
 use Rattle.class_build.specs.Figures.{Figured}
 use Rattle.class_build.specs.Build.{Ended, TestingIn}
 use Rattle.class_build.specs.Finish.{tables_made, stack_fits, figures_are}
-use Rattle.text_write.specs.Written.{Adds, written_none, ends-whole, ends_short}
+use Rattle.text_write.specs.Written.{written_none, ends-whole, ends_short}
 use Rattle.text_goals.specs.AllShown.{Starting, ShowsAll}
 use Rattle.text_goals.specs.declared.goal.Budgets.{Budgets}
 use Rattle.text_goals.specs.declared.goals.Goals.TheVariants as goals

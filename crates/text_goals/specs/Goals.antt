@@ -1,6 +1,6 @@
 -- The lines of one goal.
-use Rattle.std.specs.Prelude.{◌≡◌, refl, List, [], ◌∷◌, ◌++◌, ℕ, ◌+◌, ◌<◌, length, get_or}
-use Rattle.std.proofs.Common.{sym, ap, subst, ◌∙◌, append_assoc, arith}
+use Rattle.std.specs.Prelude.{◌≡◌, List, [], ◌∷◌, ◌++◌, ℕ, ◌<◌, length, get_or}
+use Rattle.std.proofs.Common.{sym, ap, ◌∙◌, append_assoc, arith}
 use Rattle.definition.specs.Pack.{Node, Pack}
 use Rattle.definition.specs.Verdict.{Bound, no_goal}
 use Rattle.definition.specs.Classes.{Class, Built, no_class}
@@ -12,12 +12,11 @@ use Rattle.base.specs.Upto.{Upto, upto_then}
 use Rattle.store.specs.Stored.{nodes}
 use Rattle.pack_tables.specs.Catalog.{records_of}
 use Rattle.pack_read.specs.Reads.{Reads}
-use Rattle.pack_read.specs.Held.{Proper}
 use Rattle.class_premises.specs.Takes.{conclusion_in}
 use Rattle.text_write.specs.Written.{Adds, adds_then, adds_as}
-use Rattle.text_write.specs.Source.{nodes_of, nodes_pattern, many_pattern}
+use Rattle.text_write.specs.Source.{nodes_pattern, many_pattern}
 use Rattle.text_write.specs.Walk.{Writing, Writes}
-use Rattle.text_goals.specs.Form.{Lined, Says, OfLined, lined_on, lined_reads, says_on}
+use Rattle.text_goals.specs.Form.{Lined, OfLined, lined_on, lined_reads, says_on}
 use Rattle.text_goals.specs.Lines.{WritesVariables}
 use Rattle.text_goals.specs.declared.form.Form.{Form}
 

@@ -1,11 +1,11 @@
 -- The lines of a goal's variables.
 use Rattle.std.specs.Prelude.{◌≡◌, refl, false, List, [], ◌∷◌, ◌++◌, length, get_or}
 use Rattle.std.proofs.Math.Path.{sym}
-use Rattle.std.proofs.Common.{ap, ap₂, subst, ◌∙◌, append_assoc, append-nil}
-use Rattle.std.proofs.Math.Option.{Option, none, some}
-use Prim.Native.Nat.{ℕ, zero, suc, ◌+◌, ◌*◌, ◌-◌, ◌/◌, ◌≤◌, ◌<◌}
+use Rattle.std.proofs.Common.{ap, subst, ◌∙◌, append_assoc, append-nil}
+use Rattle.std.proofs.Math.Option.{none, some}
+use Prim.Native.Nat.{ℕ, suc, ◌+◌, ◌≤◌, ◌<◌}
 use native.Mathlib.Omega.{arith}
-use Rattle.definition.specs.Test.{is, see, never}
+use Rattle.definition.specs.Test.{is, see}
 use Rattle.definition.specs.Pack.{Pack, node_of, sort_of}
 use Rattle.definition.specs.Verdict.{Bound, value_of}
 use Rattle.definition.specs.Classes.{Class, mark}
@@ -14,18 +14,17 @@ use Rattle.definition.specs.Store.{term_of}
 use Rattle.definition.specs.Graph.{up_to}
 use Rattle.definition.specs.Shown.{show, variable_name, variable_line, variable_lines}
 use Rattle.base.specs.Upto.{Upto, upto_none, upto_then}
-use Rattle.memo.specs.Recall.{recall, Remembers, length-recall, known}
+use Rattle.memo.specs.Recall.{recall, length-recall, known}
 use Rattle.memo.specs.Lent.{lent, lent_long, recall_at}
-use Rattle.memo.specs.declared.memo.Known.{Known}
 use Rattle.memo.specs.declared.memo.Known.TheVariants.{Value, Nothing}
 use Rattle.pack_tables.specs.Catalog.{records_of}
 use Rattle.pack_read.specs.Reads.{Reads, length-nodes}
 use Rattle.pack_read.specs.Says.{Readable}
-use Rattle.pack_read.specs.Held.{Proper, readable}
+use Rattle.pack_read.specs.Held.{readable}
 use Rattle.text_write.specs.Written.{Adds, adds_none, adds_then, adds_as}
-use Rattle.text_write.specs.Source.{nodes_of, many_in, nodes_ground, many_ground}
+use Rattle.text_write.specs.Source.{nodes_ground, many_ground}
 use Rattle.text_write.specs.Walk.{Writing, Writes}
-use Rattle.text_goals.specs.Form.{ground_of, Lined, Says, OfLined, lined_on, lined_reads, says_on}
+use Rattle.text_goals.specs.Form.{ground_of, Lined, OfLined, lined_on, lined_reads, says_on}
 use Rattle.text_goals.specs.declared.form.Form.{Form}
 
 -- variable k of the class with the value n

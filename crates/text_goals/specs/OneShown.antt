@@ -9,7 +9,7 @@ use Rattle.definition.specs.Run.{outcome}
 use Rattle.definition.specs.Goals.{Root, test_goal}
 use Rattle.definition.specs.Shown.{goal_lines}
 use Rattle.definition.specs.declared.Refusal.TheVariants.{Goal as Unmet, Instance as Unlike}
-use Rattle.base.specs.Upto.{Upto, upto_outside}
+use Rattle.base.specs.Upto.{Upto}
 use Rattle.memo.specs.declared.memo.Memo.{Memo}
 use Rattle.class_premises.specs.declared.building.Building.{Building}
 use Rattle.term_instance.specs.declared.tables.Instance.{Instance}

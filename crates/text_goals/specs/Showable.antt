@@ -1,33 +1,28 @@
 -- When all classes are made: what showing a goal reads, and what it leaves.
-use Rattle.std.specs.Prelude.{◌≡◌, refl, Bool, true, false, List, [], ◌∷◌, ◌++◌, ℕ, suc, ◌+◌, ◌*◌, ◌≤◌, ◌<◌, length, get_or}
+use Rattle.std.specs.Prelude.{◌≡◌, refl, Bool, true, false, List, ℕ, ◌+◌, ◌*◌, ◌≤◌, ◌<◌, length, get_or}
 use Rattle.std.proofs.Common.{sym, ap, subst, ◌∙◌, arith}
-use Rattle.std.proofs.Math.Option.{some}
 use Rattle.definition.specs.Pack.{Node, Pack}
-use Rattle.definition.specs.Verdict.{Bound, value_of, no_goal}
-use Rattle.definition.specs.Classes.{Class, Built, no_class, mark}
-use Rattle.definition.specs.Goals.{Root}
+use Rattle.definition.specs.Classes.{Built, no_class}
 use Rattle.definition.specs.Shown.{goal_lines}
-use Rattle.base.specs.Upto.{Upto, upto_then}
+use Rattle.base.specs.Upto.{Upto}
 use Rattle.memo.specs.Recall.{Remembers}
-use Rattle.memo.specs.Lent.{lent}
 use Rattle.memo.specs.declared.memo.Memo.{Memo}
 use Rattle.store.specs.Stored.{Stored, nodes}
 use Rattle.pack_tables.specs.Catalog.{records_of}
 use Rattle.pack_tables.specs.SameTables.{Same, same-records}
-use Rattle.pack_read.specs.Reads.{Reads, length-nodes}
-use Rattle.pack_read.specs.Held.{Proper, held_on, reads_on}
+use Rattle.pack_read.specs.Reads.{length-nodes}
+use Rattle.pack_read.specs.Held.{held_on, reads_on}
 use Rattle.theory.specs.Copies.Terms.{Patterns}
-use Rattle.class_premises.specs.Takes.{conclusion_in, count_in}
+use Rattle.class_premises.specs.Takes.{conclusion_in}
 use Rattle.class_premises.specs.declared.building.Building.{Building}
-use Rattle.term_instance.specs.Held.{Given, Kept, given_on, value_at}
+use Rattle.term_instance.specs.Held.{Given, given_on}
 use Rattle.term_instance.specs.declared.tables.Instance.{Instance}
 use Rattle.class_build.specs.Testable.{Marked, Ready, Testable, ready_upto}
-use Rattle.class_build.specs.OneGoal.{Rooted, OfReady, TestsOne}
+use Rattle.class_build.specs.OneGoal.{TestsOne}
 use Rattle.class_build.specs.declared.goal.Goal.{Goal}
 use Rattle.class_build.specs.declared.goal.Goal.TheVariants as one
 use Rattle.text_write.specs.Written.{Adds, adds_as}
 use Rattle.text_write.specs.Source.{Sourced, lent_upto, many_ground, many_pattern}
-use Rattle.text_write.specs.Walk.{Placed}
 use Rattle.text_write.specs.declared.source.Source.{Source}
 use Rattle.text_goals.specs.Form.{ground_of, Lined, Says}
 use Rattle.text_goals.specs.Goals.{WritesGoal, goal_text, goal-lines}

@@ -1,6 +1,6 @@
 -- What the goals as shown come to, whole.
-use Rattle.std.specs.Prelude.{◌≡◌, refl, List, ℕ, ◌≤◌, ◌<◌, length, take}
-use Rattle.std.proofs.Common.{sym, ap, subst, ◌∙◌, arith}
+use Rattle.std.specs.Prelude.{◌≡◌, List, ℕ, ◌≤◌, ◌<◌, length, take}
+use Rattle.std.proofs.Common.{sym, ap, ◌∙◌, arith}
 use Rattle.definition.specs.Pack.{Pack}
 use Rattle.definition.specs.Frame.{fine, refuse}
 use Rattle.definition.specs.Answer.{Lent}
@@ -23,9 +23,9 @@ use Rattle.class_premises.specs.declared.building.Building.{Building}
 use Rattle.class_premises.specs.declared.building.Counted.{Counted}
 use Rattle.class_premises.specs.Buffers.{lent}
 use Rattle.class_build.specs.LeftWords.{class_words_law, class_fits, pattern_words_law, pattern_fits}
-use Rattle.class_build.specs.Build.{BuildsClasses, MadeAll, Unbuilt, run-unbuilt, run_untested, run-done}
+use Rattle.class_build.specs.Build.{BuildsClasses, MadeAll, run-unbuilt, run_untested, run-done}
 use Rattle.class_build.specs.declared.build.Classes.TheVariants as made
-use Rattle.text_goals.specs.Ends.{Refusing, unmet, short, Showed, EndsShown}
+use Rattle.text_goals.specs.Ends.{Refusing, unmet, short, EndsShown}
 use Rattle.text_goals.specs.declared.goal.Budgets.{Budgets}
 use Rattle.text_goals.specs.declared.show.Answer.{Answer}
 use Rattle.text_goals.specs.declared.show.Answer.TheVariants as answers

@@ -1,8 +1,6 @@
 -- `make_classes` meets its contract.
-use borrow.Author.Rules.{rules}
 use Prim.Native.Nat.{◌-◌}
-use native.Mathlib.Omega.{arith}
-use Rattle.class_all.specs.All.{Turned, beginning_few, turned_none, turned_makes, turned_refused, turned_addable, turned_more, turned_all}
+use Rattle.class_all.specs.All.{Turned}
 use Rattle.class_all.proofs.all.make_classes.Given as goal
 
 abbrev pub invariant-loop-i : goal.invariant-loop-i

@@ -1,5 +1,4 @@
 -- `step_ruling` meets its contract.
-use borrow.Author.Rules.{rules}
 use mathlib.Core.Path.{refl}
 use Rattle.pack_read.specs.Held.{readable}
 use Rattle.class_all.specs.Class.{ruling_recorded}

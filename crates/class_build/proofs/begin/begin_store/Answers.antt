@@ -1,5 +1,4 @@
 -- `begin_store` meets its contract.
-use borrow.Author.Rules.{rules}
 use Rattle.base.specs.Part.{part}
 use Rattle.class_build.specs.Begin.{index_enough, store_begun}
 use Rattle.class_build.proofs.begin.begin_store.Goals as goal

@@ -1,5 +1,4 @@
 -- `build` meets its contract.
-use borrow.Author.Rules.{rules}
 use mathlib.Core.Path.{◌∙◌}
 use Rattle.class_build.specs.Goes.{builds_unbuilt, builds_ended}
 use Rattle.class_build.proofs.build.build.Goals as goal

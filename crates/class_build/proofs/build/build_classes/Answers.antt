@@ -1,5 +1,4 @@
 -- `build_classes` meets its contract.
-use borrow.Author.Rules.{rules}
 use Rattle.class_build.specs.Goes.{classes_short, count_there, classes_begin, classes_on}
 use Rattle.class_build.proofs.build.build_classes.Goals as goal
 

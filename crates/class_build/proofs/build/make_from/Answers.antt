@@ -1,5 +1,4 @@
 -- `make_from` meets its contract.
-use borrow.Author.Rules.{rules}
 use Rattle.class_build.specs.Goes.{begins_classes, goes_made, goes_unbuilt}
 use Rattle.class_build.proofs.build.make_from.Goals as goal
 

@@ -1,5 +1,4 @@
 -- `figures_of` meets its contract.
-use borrow.Author.Rules.{rules}
 use Rattle.class_build.specs.Figures.{figured}
 use Rattle.class_build.proofs.figures.figures_of.Goals as goal
 

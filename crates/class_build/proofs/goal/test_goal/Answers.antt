@@ -1,5 +1,4 @@
 -- `test_goal` meets its contract: the instance test of the goal's judgment against the conclusion of its class is the definition's.
-use borrow.Author.Rules.{rules}
 use Rattle.pack_read.specs.Held.{readable}
 use Rattle.class_build.specs.OneGoal.{one-unmet, answer_recorded, answer_asks, row_asks, instance_asks, one-met, one-other}
 use Rattle.class_build.proofs.goal.test_goal.Goals as goal

@@ -1,5 +1,4 @@
 -- `test_goals` meets its contract: with both memos begun the goals can be tested.
-use borrow.Author.Rules.{rules}
 use Rattle.class_build.specs.Tests.{made-seen, made-values, begun_testable, begun_tests}
 use Rattle.class_build.proofs.goals.test_goals.Goals as goal
 

@@ -1,8 +1,6 @@
 -- `test_each` meets its contract: with each turn the goals left give the same answer.
-use borrow.Author.Rules.{rules}
-use Prim.Native.Nat.{◌-◌, ◌≤◌}
 use native.Mathlib.Omega.{arith}
-use Rattle.class_build.specs.EachGoal.{Going, going_none, going_testable, going_recorded, going_met, going_on, going_unmet, going_other}
+use Rattle.class_build.specs.EachGoal.{going_none, going_testable, going_recorded, going_met, going_on, going_unmet, going_other}
 use Rattle.class_build.proofs.goals_each.test_each.Goals as goal
 
 pub count-goals-requires : goal.count-goals-requires

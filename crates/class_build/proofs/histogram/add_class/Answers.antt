@@ -1,5 +1,4 @@
 -- `add_class` meets its contract.
-use borrow.Author.Rules.{rules}
 use Rattle.class_build.specs.Slots.{adds_single, adds_few, adds_tens, adds_hundreds}
 use Rattle.class_build.proofs.histogram.add_class.Goals as goal
 

@@ -1,9 +1,7 @@
 -- `histogram` meets its contract.
-use borrow.Author.Rules.{rules}
-use Prim.Native.Nat.{◌-◌}
 use native.Mathlib.Numerals.{add-one}
 use native.Mathlib.Omega.{arith}
-use Rattle.class_build.specs.Slots.{Counting, counting-none, counting_wide, counting_more, counting-all}
+use Rattle.class_build.specs.Slots.{counting-none, counting_wide, counting_more, counting-all}
 use Rattle.class_build.proofs.histogram.histogram.Goals as goal
 
 pub loop-i-init : goal.loop-i-init

@@ -1,9 +1,6 @@
 -- `histogram` meets its contract.
-use borrow.Author.Rules.{rules}
 use Prim.Native.Nat.{◌-◌}
-use native.Mathlib.Numerals.{add-one}
-use native.Mathlib.Omega.{arith}
-use Rattle.class_build.specs.Slots.{Counting, counting-none, counting_wide, counting_more, counting-all}
+use Rattle.class_build.specs.Slots.{Counting}
 use Rattle.class_build.proofs.histogram.histogram.Given as goal
 
 abbrev pub invariant-loop-i : goal.invariant-loop-i

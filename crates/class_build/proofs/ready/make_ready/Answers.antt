@@ -1,5 +1,4 @@
 -- `make_ready` meets its contract.
-use borrow.Author.Rules.{rules}
 use native.Mathlib.Omega.{arith}
 use Rattle.class_build.specs.Ready.{ready_short, ready_roomy, ready_keyable, ready_indexable, ready_on}
 use Rattle.class_build.proofs.ready.make_ready.Goals as goal

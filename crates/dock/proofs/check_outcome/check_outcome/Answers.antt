@@ -1,5 +1,4 @@
 -- `check_outcome` meets its contract.
-use borrow.Author.Rules.{rules}
 use mathlib.Core.Path.{refl, sym, ap, ◌∙◌}
 use lib.ListN.{length}
 use Rattle.definition.specs.Check.{check_lent}

@@ -1,5 +1,4 @@
 -- `run_check` meets its contract.
-use borrow.Author.Rules.{rules}
 use Rattle.dock_call.specs.Outcome.{refusal_of}
 use Rattle.dock.specs.Opened.{bad_judged, read_judged}
 use Rattle.dock.proofs.check_outcome.run_check.Goals as goal

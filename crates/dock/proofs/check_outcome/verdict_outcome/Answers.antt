@@ -1,5 +1,4 @@
 -- `verdict_outcome` meets its contract.
-use borrow.Author.Rules.{rules}
 use mathlib.Core.Path.{◌≡◌, sym, ap, ◌∙◌}
 use Rattle.definition.specs.Verdict.{verdict}
 use Rattle.check_steps.specs.Decided.{verdict_of}

@@ -1,5 +1,4 @@
 -- `classes_outcome` meets its contract.
-use borrow.Author.Rules.{rules}
 use mathlib.Core.Path.{sym, ap, ◌∙◌}
 use Rattle.dock_call.specs.Outcome.{refusal_of}
 use Rattle.dock.specs.Comes.{comes_refused, comes_spacious, comes_run}

@@ -1,5 +1,4 @@
 -- `run_classes` meets its contract.
-use borrow.Author.Rules.{rules}
 use Rattle.dock.specs.Comes.{runs_refused, runs_opened, runs_built}
 use Rattle.dock.proofs.classes_outcome.run_classes.Goals as goal
 

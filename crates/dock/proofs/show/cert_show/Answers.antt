@@ -1,5 +1,4 @@
 -- `cert_show` meets its contract.
-use borrow.Author.Rules.{rules}
 use mathlib.Core.Path.{refl, ◌∙◌}
 use native.Mathlib.Omega.{arith}
 use Rattle.dock.specs.Shown.{promised_done, promised_refused}

@@ -1,5 +1,4 @@
 -- `run_show` meets its contract.
-use borrow.Author.Rules.{rules}
 use mathlib.Core.Path.{◌∙◌}
 use Rattle.dock.specs.Comes.{runs_opened}
 use Rattle.dock.specs.ComesShown.{runs_refused, runs_shown}

@@ -1,11 +1,9 @@
 -- `first_proved` meets its contract.
 use borrow.Author.Rules.{rules}
-use mathlib.Core.Path.{◌≡◌, refl, ◌∙◌}
-use Prim.Native.Nat.{◌-◌}
+use mathlib.Core.Path.{refl, ◌∙◌}
 use native.Mathlib.Omega.{arith}
-use lib.ListN.{length}
 use Rattle.emit_state.specs.Holding.{lends}
-use Rattle.emit_induct.specs.Choosing.{CandidatesGo, candidates_go, candidates_end, next-asked, next_proves, next-refused, next_fails}
+use Rattle.emit_induct.specs.Choosing.{candidates_go, candidates_end, next-asked, next_proves, next-refused, next_fails}
 use Rattle.emit_induct.proofs.candidates.first_proved.Goals as goal
 
 pub loop-i-init : goal.loop-i-init

@@ -1,11 +1,9 @@
 -- `first_proved` meets its contract.
-use borrow.Author.Rules.{rules}
-use mathlib.Core.Path.{◌≡◌, refl, ◌∙◌}
+use mathlib.Core.Path.{◌≡◌}
 use Prim.Native.Nat.{◌-◌}
-use native.Mathlib.Omega.{arith}
 use lib.ListN.{length}
 use Rattle.emit_state.specs.Holding.{lends}
-use Rattle.emit_induct.specs.Choosing.{CandidatesGo, candidates_go, candidates_end, next-asked, next_proves, next-refused, next_fails}
+use Rattle.emit_induct.specs.Choosing.{CandidatesGo}
 use Rattle.emit_induct.proofs.candidates.first_proved.Given as goal
 
 abbrev pub invariant-loop-i : goal.invariant-loop-i

@@ -1,11 +1,9 @@
 -- `induct_cases` meets its contract.
-use borrow.Author.Rules.{rules}
-use mathlib.Core.Path.{◌≡◌, refl, ◌∙◌}
+use mathlib.Core.Path.{◌≡◌}
 use Prim.Native.Nat.{◌-◌}
 use lib.ListN.{length}
 use Rattle.emit_state.specs.Holding.{lends}
-use Rattle.emit_state.specs.Places.{small_places}
-use Rattle.emit_induct.specs.CasesGo.{CasesGo, first-asked, cases_go, cases_done, case_room, case_asked, cases_fail, cases_short, next-asked, cases_less, cases_go_on}
+use Rattle.emit_induct.specs.CasesGo.{CasesGo}
 use Rattle.emit_induct.proofs.cases.induct_cases.Given as goal
 
 abbrev pub invariant-loop-c : goal.invariant-loop-c

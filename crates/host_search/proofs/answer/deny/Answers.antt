@@ -1,5 +1,4 @@
 -- `deny` meets its contract.
-use borrow.Author.Rules.{rules}
 use Rattle.host_search.specs.Ends.{told-refused}
 use Rattle.host_search.proofs.answer.deny.Goals as goal
 

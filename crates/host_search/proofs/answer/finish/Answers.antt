@@ -1,5 +1,4 @@
 -- `finish` meets its contract.
-use borrow.Author.Rules.{rules}
 use Rattle.host_search.specs.Ends.{told_text}
 use Rattle.host_search.proofs.answer.finish.Goals as goal
 

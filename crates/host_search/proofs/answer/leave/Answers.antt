@@ -1,5 +1,4 @@
 -- `leave` meets its contract.
-use borrow.Author.Rules.{rules}
 use Rattle.host_search.specs.Ends.{left-told}
 use Rattle.host_search.proofs.answer.leave.Goals as goal
 

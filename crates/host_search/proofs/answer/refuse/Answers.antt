@@ -1,5 +1,4 @@
 -- `refuse` meets its contract.
-use borrow.Author.Rules.{rules}
 use Rattle.host_search.specs.Ends.{refused_as}
 use Rattle.host_search.proofs.answer.refuse.Goals as goal
 

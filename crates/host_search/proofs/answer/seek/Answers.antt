@@ -1,5 +1,4 @@
 -- `seek` meets its contract.
-use borrow.Author.Rules.{rules}
 use mathlib.Core.Path.{sym, ap, ◌∙◌}
 use Rattle.host_search.specs.Ends.{sought_of}
 use Rattle.host_search.proofs.answer.seek.Goals as goal

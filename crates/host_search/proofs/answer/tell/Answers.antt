@@ -1,5 +1,4 @@
 -- `tell` meets its contract.
-use borrow.Author.Rules.{rules}
 use Rattle.host_search.specs.Ends.{tell_as}
 use Rattle.host_search.proofs.answer.tell.Goals as goal
 

@@ -1,5 +1,4 @@
 -- `is_asked` meets its contract.
-use borrow.Author.Rules.{rules}
 use native.Mathlib.Omega.{arith}
 use Rattle.host_search.specs.Asked.{asked_deep, asked-none, asked_read, asked-sort}
 use Rattle.host_search.proofs.asked.is_asked.Goals as goal

@@ -1,5 +1,4 @@
 -- `intern_judgment` meets its contract.
-use borrow.Author.Rules.{rules}
 use Rattle.host_search.specs.Judged.{eigen_short, eigen_lifts, judges}
 use Rattle.host_search.proofs.judged.intern_judgment.Goals as goal
 

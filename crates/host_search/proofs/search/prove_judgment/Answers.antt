@@ -1,5 +1,4 @@
 -- `prove_judgment` meets its contract.
-use borrow.Author.Rules.{rules}
 use mathlib.Core.Path.{◌∙◌}
 use Rattle.host_search.specs.Searched.{proved_leaves}
 use Rattle.host_search.specs.Ends.{left_as}

@@ -1,5 +1,4 @@
 -- `search_from` meets its contract.
-use borrow.Author.Rules.{rules}
 use Rattle.host_search.specs.Begun.{begun-asked, begun-sought}
 use Rattle.host_search.proofs.search.search_from.Goals as goal
 

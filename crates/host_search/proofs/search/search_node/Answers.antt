@@ -1,5 +1,4 @@
 -- `search_node` meets its contract.
-use borrow.Author.Rules.{rules}
 use Rattle.host_search.specs.Opened.{asking_held, asking_sized, asking_inside, asking_low, asking_node}
 use Rattle.host_search.specs.Calls.{node_short, node_begins, node-sought}
 use mathlib.Core.Path.{◌∙◌}

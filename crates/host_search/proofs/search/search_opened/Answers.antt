@@ -1,5 +1,4 @@
 -- `search_opened` meets its contract.
-use borrow.Author.Rules.{rules}
 use Rattle.host_walk.specs.Places.{held_there}
 use Rattle.host_search.specs.Calls.{pack_node, pack_wrong}
 use mathlib.Core.Path.{sym, ◌∙◌}

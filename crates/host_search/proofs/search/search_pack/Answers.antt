@@ -1,5 +1,4 @@
 -- `search_pack` meets its contract.
-use borrow.Author.Rules.{rules}
 use Rattle.host_search.specs.Ends.{opened_read, opened-refused, comes_as}
 use Rattle.host_search.specs.Opened.{opens}
 use Rattle.host_search.specs.Calls.{pack_as}

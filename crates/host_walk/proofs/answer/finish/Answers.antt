@@ -1,6 +1,5 @@
 -- `finish` meets its contract.
 use Rattle.host_walk.specs.Walks.{told-done}
-use borrow.Author.Rules.{rules}
 use Rattle.host_walk.proofs.answer.finish.Goals as goal
 
 pub shape_of-patterns : goal.shape_of-patterns

@@ -2,7 +2,6 @@
 use mathlib.Core.Path.{◌∙◌}
 use Rattle.buffer.specs.Zero.{zeroed-all}
 use Rattle.host_walk.specs.Walks.{left-told}
-use borrow.Author.Rules.{rules}
 use Rattle.host_walk.proofs.answer.leave.Goals as goal
 
 pub shape_of-patterns : goal.shape_of-patterns

@@ -1,6 +1,5 @@
 -- `refuse` meets its contract.
 use Rattle.host_walk.specs.Walks.{told-refused}
-use borrow.Author.Rules.{rules}
 use Rattle.host_walk.proofs.answer.refuse.Goals as goal
 
 pub shape_of-patterns : goal.shape_of-patterns

@@ -1,6 +1,5 @@
 -- `tell` meets its contract.
 use Rattle.host_walk.specs.Walks.{tell_as}
-use borrow.Author.Rules.{rules}
 use Rattle.host_walk.proofs.answer.tell.Goals as goal
 
 pub finish-requires : goal.finish-requires

@@ -3,7 +3,6 @@ use Prim.Native.Nat.{◌+◌}
 use mathlib.Core.Path.{refl}
 use native.Mathlib.Omega.{arith}
 use Rattle.host_walk.specs.Back.{blank}
-use borrow.Author.Rules.{rules}
 use Rattle.host_walk.proofs.back.no_values.Goals as goal
 
 pub shape_of-work : goal.shape_of-work

@@ -1,7 +1,6 @@
 -- `read_back` meets its contract.
 use native.Mathlib.Omega.{arith}
 use Rattle.host_walk.specs.Back.{lying_few, back_ready, back_short, back_read}
-use borrow.Author.Rules.{rules}
 use Rattle.host_walk.proofs.back.read_back.Goals as goal
 
 pub no_values-requires : goal.no_values-requires

@@ -1,6 +1,5 @@
 -- `copies_in` meets its contract.
 use Rattle.host_walk.specs.CopyCalls.{copied_started, copied_short, copied-last, copied_read}
-use borrow.Author.Rules.{rules}
 use Rattle.host_walk.proofs.copies.copies_in.Goals as goal
 
 pub copy_times-requires : goal.copy_times-requires

@@ -1,6 +1,5 @@
 -- `copy_listed` meets its contract.
 use Rattle.host_walk.specs.CopyCalls.{marked-held, marked_sized, marked_inside, list_broken, list_full, list_stocked, list_copied}
-use borrow.Author.Rules.{rules}
 use Rattle.host_walk.proofs.copies.copy_listed.Goals as goal
 
 pub lifting-l-requires : goal.lifting-l-requires

@@ -1,7 +1,6 @@
 -- `copy_marked` meets its contract.
 use native.Mathlib.Omega.{arith}
 use Rattle.host_walk.specs.CopyCalls.{pack_marks, pack_copied_law}
-use borrow.Author.Rules.{rules}
 use Rattle.host_walk.proofs.copies.copy_marked.Goals as goal
 
 pub returns-then-words-flex : goal.returns-then-words-flex

@@ -2,7 +2,6 @@
 use mathlib.Core.Path.{◌∙◌}
 use Rattle.host_walk.specs.Copies.{copy_leaves}
 use Rattle.host_walk.specs.Walks.{left_as}
-use borrow.Author.Rules.{rules}
 use Rattle.host_walk.proofs.copies.copy_pattern.Goals as goal
 
 pub leave-requires : goal.leave-requires

@@ -1,9 +1,7 @@
 -- `copy_times` meets its contract.
 use mathlib.Core.Path.{◌∙◌}
-use Prim.Native.Nat.{◌-◌, ◌≤◌}
 use native.Mathlib.Omega.{arith}
-use Rattle.host_walk.specs.Times.{Timing, started_on, timing_none, timed_from, timing_given, timing_more, timing_short}
-use borrow.Author.Rules.{rules}
+use Rattle.host_walk.specs.Times.{started_on, timing_none, timed_from, timing_given, timing_more, timing_short}
 use Rattle.host_walk.proofs.copies.copy_times.Goals as goal
 
 pub begin-memo-requires : goal.begin-memo-requires

@@ -1,5 +1,4 @@
 -- `copying` meets its contract.
-use borrow.Author.Rules.{rules}
 use Rattle.host_walk.proofs.copies.copying.Goals as goal
 
 pub returns : goal.returns

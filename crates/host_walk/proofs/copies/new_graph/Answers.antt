@@ -1,7 +1,6 @@
 -- `new_graph` meets its contract.
 use native.Mathlib.Omega.{arith}
 use Rattle.host_walk.specs.Times.{new_graph}
-use borrow.Author.Rules.{rules}
 use Rattle.host_walk.proofs.copies.new_graph.Goals as goal
 
 pub shape_of-work : goal.shape_of-work

@@ -1,7 +1,6 @@
 -- `walk_copies` meets its contract.
 use Rattle.host_walk.specs.Walks.{opened_read, opened-refused}
 use Rattle.host_walk.specs.Places.{opens}
-use borrow.Author.Rules.{rules}
 use Rattle.host_walk.proofs.copies.walk_copies.Goals as goal
 
 pub copy_marked-requires : goal.copy_marked-requires

@@ -1,10 +1,7 @@
 -- `all_earlier` meets its contract.
-use borrow.Author.Rules.{rules}
-use mathlib.Core.Path.{◌≡◌, refl, sym, ◌∙◌}
-use Prim.Native.Nat.{◌-◌, ◌≤◌}
+use mathlib.Core.Path.{refl, sym, ◌∙◌}
 use native.Mathlib.Omega.{arith}
-use lib.ListN.{length, drop}
-use Rattle.host_walk.specs.Listed.{earlier, earlier_late, earlier-next, earlier-end}
+use Rattle.host_walk.specs.Listed.{earlier_late, earlier-next, earlier-end}
 use Rattle.host_walk.proofs.list.all_earlier.Goals as goal
 
 pub loop-i-init : goal.loop-i-init

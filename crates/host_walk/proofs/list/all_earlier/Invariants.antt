@@ -1,10 +1,8 @@
 -- `all_earlier` meets its contract.
-use borrow.Author.Rules.{rules}
-use mathlib.Core.Path.{◌≡◌, refl, sym, ◌∙◌}
+use mathlib.Core.Path.{◌≡◌}
 use Prim.Native.Nat.{◌-◌, ◌≤◌}
-use native.Mathlib.Omega.{arith}
 use lib.ListN.{length, drop}
-use Rattle.host_walk.specs.Listed.{earlier, earlier_late, earlier-next, earlier-end}
+use Rattle.host_walk.specs.Listed.{earlier}
 use Rattle.host_walk.proofs.list.all_earlier.Given as goal
 
 abbrev pub invariant-loop-i : goal.invariant-loop-i

@@ -2,7 +2,6 @@
 use mathlib.Core.Path.{ap, ◌∙◌}
 use native.Mathlib.Omega.{arith}
 use Rattle.host_walk.specs.Listed.{earlier, variable_three, many_no, few_are, args-lent}
-use borrow.Author.Rules.{rules}
 use Rattle.host_walk.proofs.list.is_pattern.Goals as goal
 
 pub returns-then-key : goal.returns-then-key

@@ -1,12 +1,8 @@
 -- `read_list` meets its contract.
-use mathlib.Core.Path.{◌≡◌, refl, ◌∙◌}
-use lib.ListN.{length}
-use Prim.Native.Nat.{◌-◌}
+use mathlib.Core.Path.{refl, ◌∙◌}
 use native.Mathlib.Omega.{arith}
-use Rattle.pack_tables.specs.SameTables.{Same, same_none, same_then}
-use Rattle.term_lift.specs.Lifts.{Lifts}
-use Rattle.host_walk.specs.Lists.{Reading, begun, ended_there}
-use borrow.Author.Rules.{rules}
+use Rattle.pack_tables.specs.SameTables.{same_none, same_then}
+use Rattle.host_walk.specs.Lists.{begun, ended_there}
 use Rattle.host_walk.proofs.list.read_list.Goals as goal
 
 pub loop-at-init : goal.loop-at-init

@@ -1,12 +1,10 @@
 -- `read_list` meets its contract.
-use mathlib.Core.Path.{◌≡◌, refl, ◌∙◌}
+use mathlib.Core.Path.{◌≡◌}
 use lib.ListN.{length}
 use Prim.Native.Nat.{◌-◌}
-use native.Mathlib.Omega.{arith}
-use Rattle.pack_tables.specs.SameTables.{Same, same_none, same_then}
+use Rattle.pack_tables.specs.SameTables.{Same}
 use Rattle.term_lift.specs.Lifts.{Lifts}
-use Rattle.host_walk.specs.Lists.{Reading, begun, ended_there}
-use borrow.Author.Rules.{rules}
+use Rattle.host_walk.specs.Lists.{Reading}
 use Rattle.host_walk.proofs.list.read_list.Given as goal
 
 abbrev pub invariant-loop-at : goal.invariant-loop-at

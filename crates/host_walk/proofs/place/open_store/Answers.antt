@@ -1,6 +1,5 @@
 -- `open_store` meets its contract.
 use Rattle.host_walk.specs.Places.{stores}
-use borrow.Author.Rules.{rules}
 use Rattle.host_walk.proofs.place.open_store.Goals as goal
 
 pub shape_of-work : goal.shape_of-work

@@ -1,9 +1,5 @@
 -- `show_goal` meets its contract.
-use borrow.Author.Rules.{rules}
 use mathlib.Core.Path.{◌∙◌}
-use native.Mathlib.Omega.{arith}
-use lib.ListN.{length}
-use Rattle.pack_tables.specs.Catalog.{records_of}
 use Rattle.text_goals.specs.Showable.{shows_testable, met_lined, met_goals}
 use Rattle.text_goals.specs.OneShown.{one_shown}
 use Rattle.text_goals.proofs.goal.show_goal.Goals as goal

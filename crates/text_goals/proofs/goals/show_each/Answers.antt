@@ -1,10 +1,7 @@
 -- `show_each` meets its contract: with each turn the goals left give the same answer, and the text of those ahead stands there.
-use borrow.Author.Rules.{rules}
-use mathlib.Core.Path.{◌≡◌, refl, ◌∙◌}
-use Prim.Native.Nat.{◌-◌, ◌≤◌}
+use mathlib.Core.Path.{refl, ◌∙◌}
 use native.Mathlib.Omega.{arith}
-use lib.ListN.{length}
-use Rattle.text_goals.specs.EachShown.{Going, going_none, going_showable, going_recorded, going_all, going_on, going_unmet, going_other}
+use Rattle.text_goals.specs.EachShown.{going_none, going_showable, going_recorded, going_all, going_on, going_unmet, going_other}
 use Rattle.text_goals.proofs.goals.show_each.Goals as goal
 
 pub count-goals-requires : goal.count-goals-requires

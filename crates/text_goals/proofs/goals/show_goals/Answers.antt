@@ -1,5 +1,4 @@
 -- `show_goals` meets its contract.
-use borrow.Author.Rules.{rules}
 use mathlib.Core.Path.{◌∙◌}
 use Rattle.class_build.specs.Tests.{made-seen, made-values}
 use Rattle.text_goals.specs.AllShown.{starts_showable, starts_shows}

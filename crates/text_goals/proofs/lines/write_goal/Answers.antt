@@ -1,5 +1,4 @@
 -- `write_goal` meets its contract.
-use borrow.Author.Rules.{rules}
 use Rattle.pack_read.specs.Held.{readable}
 use Rattle.text_goals.specs.Goals.{goal-row, goal_writing, goal_lined, goal_writes}
 use Rattle.text_goals.proofs.lines.write_goal.Goals as goal

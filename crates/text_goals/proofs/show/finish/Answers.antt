@@ -1,6 +1,4 @@
 -- `finish` meets its contract.
-use borrow.Author.Rules.{rules}
-use mathlib.Core.Path.{refl}
 use native.Mathlib.Omega.{arith}
 use Rattle.class_build.specs.Finish.{tests_fit, counts_there}
 use Rattle.class_premises.specs.Buffers.{lent}

@@ -1,5 +1,4 @@
 -- `show` meets its contract.
-use borrow.Author.Rules.{rules}
 use mathlib.Core.Path.{◌∙◌}
 use native.Mathlib.Omega.{arith}
 use Rattle.text_goals.specs.Shows.{shows_unbuilt, shows_ended}

@@ -1,10 +1,6 @@
 -- `put_kind` meets its contract.
-use borrow.Author.Rules.{rules}
-use mathlib.Core.Path.{refl, ◌∙◌}
-use Prim.Native.Nat.{◌+◌}
-use native.Mathlib.Omega.{arith}
-use Rattle.pack_read.specs.Held.{readable}
-use Rattle.text_goals.specs.Lines.{kind_mark, kind_puts, kind_sorted}
+use mathlib.Core.Path.{refl}
+use Rattle.text_goals.specs.Lines.{kind_puts, kind_sorted}
 use Rattle.text_goals.proofs.values.put_kind.Goals as goal
 
 pub node_sort-requires : goal.node_sort-requires

@@ -1,5 +1,4 @@
 -- `write_line` meets its contract.
-use borrow.Author.Rules.{rules}
 use Rattle.text_goals.specs.Lines.{kind_writing, line_writes}
 use Rattle.text_goals.proofs.values.write_line.Goals as goal
 

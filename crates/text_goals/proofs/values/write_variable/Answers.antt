@@ -1,5 +1,4 @@
 -- `write_variable` meets its contract.
-use borrow.Author.Rules.{rules}
 use mathlib.Core.Path.{sym, ap, ◌∙◌}
 use Rattle.memo.specs.Recall.{known}
 use Rattle.text_goals.specs.Lines.{variable-kept, variable-kinds, variable_some, variable-none}

@@ -1,10 +1,7 @@
 -- `write_variables` meets its contract: with each turn the lines of one variable more are there.
-use borrow.Author.Rules.{rules}
-use mathlib.Core.Path.{◌≡◌, refl, sym, ◌∙◌}
-use Prim.Native.Nat.{◌-◌, ◌≤◌}
+use mathlib.Core.Path.{refl, ◌∙◌}
 use native.Mathlib.Omega.{arith}
-use lib.ListN.{length}
-use Rattle.text_goals.specs.Lines.{Lining, lining_none, lining_lined, lining_many, lining_on, lining_all}
+use Rattle.text_goals.specs.Lines.{lining_none, lining_lined, lining_many, lining_on, lining_all}
 use Rattle.text_goals.proofs.values.write_variables.Goals as goal
 
 pub row_variables-n-requires : goal.row_variables-n-requires

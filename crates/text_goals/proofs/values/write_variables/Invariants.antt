@@ -1,10 +1,8 @@
 -- `write_variables` meets its contract: with each turn the lines of one variable more are there.
-use borrow.Author.Rules.{rules}
-use mathlib.Core.Path.{◌≡◌, refl, sym, ◌∙◌}
+use mathlib.Core.Path.{◌≡◌}
 use Prim.Native.Nat.{◌-◌, ◌≤◌}
-use native.Mathlib.Omega.{arith}
 use lib.ListN.{length}
-use Rattle.text_goals.specs.Lines.{Lining, lining_none, lining_lined, lining_many, lining_on, lining_all}
+use Rattle.text_goals.specs.Lines.{Lining}
 use Rattle.text_goals.proofs.values.write_variables.Given as goal
 
 abbrev pub invariant-loop-k : goal.invariant-loop-k
