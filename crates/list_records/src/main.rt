@@ -1,7 +1,8 @@
 // Lists the records of a pack that it reads: offset, kind and body length, a line for each.
 #![tactic(auto)]
 
-ghost use Rattle.std.specs.Prelude.{◌≡◌, ◌≤◌, length, replicate, IfOk};
+ghost use Rattle.std.specs.Prelude.{◌≡◌, ◌<◌, ◌≤◌, length, replicate, take, IfOk};
+ghost use Rattle.std.specs.Io.KnownBytes.{Consumes, IsAtEnd};
 ghost use Rattle.buffer.specs.Text.{Wrote, write};
 ghost use Rattle.list_records.specs.Lines.{record_at, field, line, cut_line, lines};
 ghost use Rattle.list_records.specs.Added.{Added};
@@ -120,18 +121,18 @@ pub fn list(pack: &[u8], text: &mut [u8]) -> Put
     Put::End(end)
 }
 
-// Reads to the end of the input, or until the buffer is full; answers how many bytes were read.
+// Reads to the end of the input, or until the buffer is full; answers how many bytes were read. They stand at the buffer's front in their
+// order, and where they are fewer than it has room for, nothing is left.
 fn read_full<R: Read>(reader: &mut R, buf: &mut [u8]) -> io::Result<usize>
-    ensures { IfOk result (λ n. n ≤ length buf.new) }
+    ensures bound { IfOk result (λ n. n ≤ length buf.new) }
+    ensures bytes { IfOk result (λ n. Consumes (R.remaining reader.old) (R.remaining reader.new) (take n buf.new)) }
+    ensures whole { IfOk result (λ n. n < length buf.new → IsAtEnd (R.remaining reader.new)) }
 {
     let mut done = 0;
-    for _ in 0..u64::MAX {
-        if done == buf.len() {
-            break;
-        }
+    while done < buf.len() {
         let n = reader.read(&mut buf[done..])?;
         if n == 0 {
-            break;
+            return Ok(done);
         }
         done += n;
     }
