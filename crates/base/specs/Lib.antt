@@ -5,6 +5,7 @@ pub mod Lent
 pub mod Word
 pub mod Upto
 pub mod Listed
+pub mod Below
 pub mod Hash
 pub mod Probe
 pub mod Stack

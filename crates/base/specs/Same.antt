@@ -1,6 +1,7 @@
 -- Whether two lists are the same, cell by cell from a place on.
-use Rattle.std.specs.Prelude.{◌≡◌, true, false, List, ℕ, ◌+◌, ◌≤◌, ◌<◌, length, get_or, drop}
+use Rattle.std.specs.Prelude.{◌≡◌, refl, Bool, true, false, ◌&&◌, List, [], ◌∷◌, ℕ, eqb, nat_eq, ◌+◌, ◌≤◌, ◌<◌, length, get_or, drop}
 use Rattle.std.proofs.Common.{sym, ap, ◌∙◌, add-one, eq-eqb, ne_eqb, drop_of_length-le, drop-cons}
+use Rattle.std.specs.Cmp.Lexicographic.{pointwise}
 use Rattle.definition.specs.Test.{◌and◌, same, same_true, same_refl, is, see, never}
 
 -- the test says that they are not the same just if they are not
@@ -24,3 +25,15 @@ same_stop i xs ys l m n = rw (drop-cons xs i 0 l, drop-cons ys i 0 m, ne_eqb (ge
 pub same_end : (i : ℕ) (xs ys : List ℕ) → length xs ≤ i → length ys ≤ i → same (drop i xs) (drop i ys) ≡ true
 unfolding same
 same_end i xs ys l m = rw (drop_of_length-le xs l, drop_of_length-le ys m)
+
+-- the library's test of two slices is the same test
+pub same_is : (xs ys : List ℕ) → pointwise nat_eq xs ys ≡ same xs ys
+unfolding same ◌and◌
+same_is [] [] = refl
+same_is [] (y ∷ ys) = refl
+same_is (x ∷ xs) [] = refl
+same_is (x ∷ xs) (y ∷ ys) = by (eqb x y) (same_is xs ys)
+  where
+    by : (b : Bool) → pointwise nat_eq xs ys ≡ same xs ys → (b && pointwise nat_eq xs ys) ≡ (b and same xs ys)
+    by true e = e
+    by false e = refl

@@ -1,8 +1,8 @@
 -- A stack of words in a part of a buffer: its base, and how many words stand on it.
+use Rattle.std.specs.Prelude.{Option, Some, None}
 use Rattle.std.specs.Prelude.{◌≡◌, refl, List, [], ◌∷◌, ℕ, zero, suc, ◌+◌, ◌≤◌, ◌<◌, length, get_or, set}
 use Rattle.std.proofs.Common.{ap, ap₂, add-one, arith, get_or-set_same, get_or-set_other}
-use Rattle.base.specs.declared.stack.Popped.{Popped}
-use Rattle.base.specs.declared.stack.Popped.TheVariants.{Word, Empty}
+use Rattle.base.specs.declared.stack.Stack.{Stack}
 
 -- the n words that stand on a, the last one first
 unfoldable pub stacked : ℕ → ℕ → List ℕ → List ℕ
@@ -35,6 +35,6 @@ unfolding stacked
 stacked_pop a n xs = rw (add-one n)
 
 -- what taking a word off the stack ws gives: its first word and a stack of the others, or that it has none
-abbrev pub Took : List ℕ → ℕ → List ℕ → Popped → Type 0
-Took ws a xs (Word v st) = (st.at ≡ a) × (st.len < length ws) × (ws ≡ v ∷ stacked a st.len xs)
-Took ws a xs Empty = ws ≡ []
+abbrev pub Took : List ℕ → ℕ → List ℕ → Option (ℕ × Stack) → Type 0
+Took ws a xs (Some (v, st)) = (st.at ≡ a) × (st.len < length ws) × (ws ≡ v ∷ stacked a st.len xs)
+Took ws a xs None = ws ≡ []

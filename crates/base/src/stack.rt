@@ -24,13 +24,6 @@ impl Frame {
     pub const NEXT_TAKEN: usize = 3;
 }
 
-// A word taken off, and what is left; or that there was none.
-#[derive(Clone, Copy)]
-pub enum Popped {
-    Word(u32, Stack),
-    Empty,
-}
-
 impl Stack {
     // The stack with `v` on it.
     pub fn push(self, words: &mut [u32], v: u32) -> Stack
@@ -46,22 +39,22 @@ impl Stack {
         }
     }
 
-    // The stack without its last word.
-    pub fn pop(self, words: &[u32]) -> Popped
+    // The last word and the stack without it; none if it is empty.
+    pub fn pop(self, words: &[u32]) -> Option<(u32, Stack)>
         requires { self.at + self.len ≤ length words.now }
         ensures { Took (stacked self.at self.len words.now) self.at words.now result }
     {
         let n = self.len;
         if n == 0 {
-            return Popped::Empty;
+            return None;
         }
         let i = self.at + (n - 1);
-        Popped::Word(
+        Some((
             words[i],
             Stack {
                 at: self.at,
                 len: n - 1,
             },
-        )
+        ))
     }
 }

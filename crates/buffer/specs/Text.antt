@@ -1,4 +1,5 @@
 -- Bytes written into a lent text.
+use Rattle.std.specs.Prelude.{Option, Some, None}
 use Rattle.std.specs.Prelude.{true, false, ◌≡◌, refl, List, [], ◌∷◌, ◌++◌, ℕ, suc, ◌+◌, ◌/◌, ◌%◌, ◌<◌, ◌≤◌, leb, length, take, set}
 use Rattle.std.proofs.Common.{sym, ap, ◌∙◌, append_assoc, add-one, arith, le-leb, length-append, lt-length-set, drop-drop, drop-cons, get_or-set_same, drop-set-lt}
 use Rattle.std.proofs.Math.Decide.{dec_le}
@@ -6,8 +7,6 @@ use Rattle.std.proofs.lemmas.Bool.{lt-leb}
 use Rattle.std.proofs.lemmas.List.{take-set-le, set_split}
 use Rattle.base.specs.Part.{put, length-put, take_put}
 use Rattle.definition.specs.Decimal.{decimal, decimal_few, decimal-more, length_more}
-use Rattle.buffer.specs.declared.decimal.Put.{Put}
-use Rattle.buffer.specs.declared.decimal.Put.TheVariants.{End, Short}
 
 -- the text t with the bytes bs in place of those that stood at `at`
 unfoldable pub over : ℕ → List ℕ → List ℕ → List ℕ
@@ -15,7 +14,7 @@ over at bs t = put at (length bs) bs t
 
 -- what a write answers and leaves
 pub record Wrote : Type 0 where
-  pub answer : Put
+  pub answer : Option ℕ
   pub text : List ℕ
 
 -- the bytes bs written at `at` where all of them have room, else nothing
@@ -23,8 +22,8 @@ unfoldable pub write : List ℕ → ℕ → List ℕ → Wrote
 unfolding over
 write t at bs =
     elim (leb (at + length bs) (length t)) [
-      | true ↦ record { answer = End (at + length bs); text = over at bs t }
-      | false ↦ record { answer = Short; text = t }
+      | true ↦ record { answer = Some (at + length bs); text = over at bs t }
+      | false ↦ record { answer = None; text = t }
     ]
 
 -- up to the end of what was written: what stood before, and the bytes
@@ -39,36 +38,36 @@ length_over at bs t h = length-put at (length bs) t h bs refl
 
 -- where all have room
 pub write-fits : (t : List ℕ) (at : ℕ) (bs : List ℕ) (e : ℕ) (u : List ℕ) → e ≡ at + length bs → e ≤ length t → u ≡ over at bs t
-    → ◌≡◌ {A = Wrote} (record { answer = End e; text = u }) (write t at bs)
+    → ◌≡◌ {A = Wrote} (record { answer = Some e; text = u }) (write t at bs)
 unfolding write
 write-fits t at bs e u p h q = rw (p, q, le-leb (at + length bs) (length t) (omega arith), write)
 
 -- where not all have room
-pub write_short : (t : List ℕ) (at : ℕ) (bs : List ℕ) → length t < at + length bs → ◌≡◌ {A = Wrote} (record { answer = Short; text = t }) (write t at bs)
+pub write_short : (t : List ℕ) (at : ℕ) (bs : List ℕ) → length t < at + length bs → ◌≡◌ {A = Wrote} (record { answer = None; text = t }) (write t at bs)
 unfolding write
 write_short t at bs h = rw (lt-leb (at + length bs) (length t) h, write)
 
 -- what an End tells
-pub wrote_end : (t : List ℕ) (at : ℕ) (bs : List ℕ) (e : ℕ) (u : List ℕ) → ◌≡◌ {A = Wrote} (record { answer = End e; text = u }) (write t at bs)
+pub wrote_end : (t : List ℕ) (at : ℕ) (bs : List ℕ) (e : ℕ) (u : List ℕ) → ◌≡◌ {A = Wrote} (record { answer = Some e; text = u }) (write t at bs)
     → (e ≡ at + length bs) × (e ≤ length t) × (u ≡ over at bs t)
 wrote_end t at bs e u w = elim (dec_le (at + length bs) (length t)) [
   | yes h ↦
       let v = w ∙ sym (write-fits t at bs (at + length bs) (over at bs t) refl h refl) in
-      let a : End e ≡ End (at + length bs) = ap (λ (x : Wrote). x.answer) v in
+      let a : Some e ≡ Some (at + length bs) = ap (λ (x : Wrote). x.answer) v in
       let p : e ≡ at + length bs = cc in
       (p, omega arith, ap (λ (x : Wrote). x.text) v)
   | no h ↦
-      let a : End e ≡ Short = ap (λ (x : Wrote). x.answer) (w ∙ sym (write_short t at bs (omega arith))) in
+      let a : Some e ≡ None = ap (λ (x : Wrote). x.answer) (w ∙ sym (write_short t at bs (omega arith))) in
       let z : ◌≡◌ {A = ℕ} 0 1 = cc in
       absurd (omega arith)
 ]
 
 -- what a Short tells
-pub wrote_short : (t : List ℕ) (at : ℕ) (bs u : List ℕ) → ◌≡◌ {A = Wrote} (record { answer = Short; text = u }) (write t at bs)
+pub wrote_short : (t : List ℕ) (at : ℕ) (bs u : List ℕ) → ◌≡◌ {A = Wrote} (record { answer = None; text = u }) (write t at bs)
     → (length t < at + length bs) × (u ≡ t)
 wrote_short t at bs u w = elim (dec_le (at + length bs) (length t)) [
   | yes h ↦
-      let a : Short ≡ End (at + length bs) = ap (λ (x : Wrote). x.answer) (w ∙ sym (write-fits t at bs (at + length bs) (over at bs t) refl h refl)) in
+      let a : None ≡ Some (at + length bs) = ap (λ (x : Wrote). x.answer) (w ∙ sym (write-fits t at bs (at + length bs) (over at bs t) refl h refl)) in
       let z : ◌≡◌ {A = ℕ} 0 1 = cc in
       absurd (omega arith)
   | no h ↦ (omega arith, ap (λ (x : Wrote). x.text) (w ∙ sym (write_short t at bs (omega arith))))

@@ -1,30 +1,41 @@
--- Zeros behind a place of a list.
+-- A value, zero mostly, behind a place of a list.
 use Rattle.std.specs.Prelude.{◌≡◌, refl, List, ◌++◌, ℕ, suc, ◌+◌, ◌-◌, ◌<◌, ◌≤◌, length, get_or, take, drop, replicate, set}
 use Rattle.std.proofs.Common.{ap, ◌∙◌, append_assoc, append-nil, add-one, arith, length-set, take_all, take-suc-set}
 use Rattle.std.proofs.lemmas.List.{length-replicate, get_or-replicate}
 use Rattle.base.specs.Part.{put, length_part, part-lent, length-put, put-before, put-at, put-behind, put-lent}
 
--- what stands before `from`, and zeros to the end
-unfoldable pub zeroed : ℕ → List ℕ → List ℕ
-zeroed from xs = take from xs ++ replicate (length xs - from) 0
+-- what stands before `from`, and v to the end
+unfoldable pub filled : {A : Type 0} → A → ℕ → List A → List A
+filled v from xs = take from xs ++ replicate (length xs - from) v
 
--- one turn: a zero stored at i leaves the zeros behind i to be written
-pub zeroed-turn : (i : ℕ) (xs : List ℕ) → i < length xs → zeroed (i + 1) (set xs i 0) ≡ zeroed i xs
-unfolding zeroed
-zeroed-turn i xs h =
+-- what stands before `from`, and zeros to the end
+abbrev pub zeroed : ℕ → List ℕ → List ℕ
+zeroed from xs = filled 0 from xs
+
+-- one turn: a value stored at i leaves those behind i to be written
+pub filled-turn : {A : Type 0} (v : A) (i : ℕ) (xs : List A) → i < length xs → filled v (i + 1) (set xs i v) ≡ filled v i xs
+unfolding filled
+filled-turn v i xs h =
     let e : length xs - i ≡ suc (length xs - suc i) = omega arith in
     rw (add-one, take-suc-set, length-set, append_assoc, e)
 
--- nothing is left to be written past the end
-pub zeroed-end : (i : ℕ) (xs : List ℕ) → length xs ≤ i → zeroed i xs ≡ xs
-unfolding zeroed
-zeroed-end i xs h =
+pub filled-end : {A : Type 0} (v : A) (i : ℕ) (xs : List A) → length xs ≤ i → filled v i xs ≡ xs
+unfolding filled
+filled-end v i xs h =
     let e : length xs - i ≡ 0 = omega arith in
     rw (take_all, e, append-nil)
 
+-- the same of a zero
+pub zeroed-turn : (i : ℕ) (xs : List ℕ) → i < length xs → zeroed (i + 1) (set xs i 0) ≡ zeroed i xs
+zeroed-turn i xs h = filled-turn 0 i xs h
+
+-- nothing is left to be written past the end
+pub zeroed-end : (i : ℕ) (xs : List ℕ) → length xs ≤ i → zeroed i xs ≡ xs
+zeroed-end i xs h = filled-end 0 i xs h
+
 -- from 0 on, all is zero
 pub zeroed-all : (xs : List ℕ) → zeroed 0 xs ≡ replicate (length xs) 0
-unfolding zeroed
+unfolding filled
 zeroed-all xs =
     let e : length xs - 0 ≡ length xs = omega arith in
     rw e

@@ -3,13 +3,6 @@ ghost use Rattle.std.specs.Prelude.{◌≡◌, length};
 ghost use Rattle.definition.specs.Decimal.{decimal};
 ghost use Rattle.buffer.specs.Text.{Wrote, write};
 
-// How a write ended: the place behind the last byte, or that there was no room.
-#[derive(Clone, Copy)]
-pub enum Put {
-    End(usize),
-    Short,
-}
-
 // How many digits `n` has.
 fn digits(n: u64) -> usize
     ensures { result ≡ length (decimal n) }
@@ -23,16 +16,16 @@ fn digits(n: u64) -> usize
     k
 }
 
-// Writes the digits of `n` at `at`, or nothing where there is no room for all of them.
-pub fn put_decimal(text: &mut [u8], at: usize, n: u64) -> Put
+// Writes the digits of `n` at `at`: the place behind them; none, and nothing is written, where there is no room for all of them.
+pub fn put_decimal(text: &mut [u8], at: usize, n: u64) -> Option<usize>
     ensures { ◌≡◌ {A = Wrote} (record { answer = result; text = text.new }) (write text.old at (decimal n)) }
 {
     if text.len() < at {
-        return Put::Short;
+        return None;
     }
     let k = digits(n);
     if text.len() - at < k {
-        return Put::Short;
+        return None;
     }
     let end = at + k;
     let mut i = end - 1;
@@ -43,5 +36,5 @@ pub fn put_decimal(text: &mut [u8], at: usize, n: u64) -> Put
         i -= 1;
     }
     text[i] = b'0' + m as u8;
-    Put::End(end)
+    Some(end)
 }

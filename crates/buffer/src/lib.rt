@@ -1,4 +1,4 @@
-// Numbers and text in lent buffers: little-endian reads, clearing, decimal digits.
+// Numbers and text in lent buffers: little-endian reads, filling, decimal digits.
 #![tactic(auto)]
 
 pub mod decimal;

@@ -1,18 +1,15 @@
 -- The verdict as the definition has it.
-use Rattle.std.specs.Prelude.{◌≡◌, ℕ}
+use Rattle.std.specs.Prelude.{◌≡◌, ℕ, Result, Ok, Err}
 use Rattle.std.proofs.Math.Option.{Option, none, some}
 use Rattle.definition.specs.Pack.{Pack}
 use Rattle.definition.specs.Verdict.{passes, met, first_failing, verdict}
 use Rattle.definition.specs.declared.Refusal.{Refusal}
 use Rattle.definition.specs.declared.Refusal.TheVariants as refusal
-use Rattle.check_steps.specs.declared.verdict.Verdict.{Verdict}
-use Rattle.check_steps.specs.declared.verdict.Verdict.TheVariants.{Accepted, Step, Goal}
 
 -- the refusal, if it is one
-abbrev pub verdict_of : Verdict → Option Refusal
-verdict_of Accepted = none
-verdict_of (Step i) = some (refusal.Step i)
-verdict_of (Goal g) = some (refusal.Goal g)
+abbrev pub verdict_of : Result (Unit {0}) Refusal → Option Refusal
+verdict_of (Ok tt) = none
+verdict_of (Err r) = some r
 
 module _ (P : Pack) where
   pub step_fails : (i : ℕ) → some i ≡ first_failing (passes P) P.steps 0 → some (refusal.Step i) ≡ verdict P

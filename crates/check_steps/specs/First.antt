@@ -1,4 +1,5 @@
 -- The first of some things that fails, one after the other.
+use Rattle.std.specs.Prelude.{Option as Optional, Some, None}
 use Rattle.std.specs.Prelude.{◌≡◌, refl, Bool, true, false, not, List, ℕ, suc, ◌+◌, ◌≤◌, ◌<◌, length, get_or, drop}
 use Rattle.std.proofs.Common.{sym, ◌∙◌, add-one, arith, drop_of_length-le, drop-cons}
 use Rattle.std.proofs.Math.Option.{Option, none, some}
@@ -9,13 +10,11 @@ use Rattle.pack_tables.specs.declared.catalog.Catalog.{Catalog}
 use Rattle.pack_tables.specs.Name.{denied, not_denied}
 use Rattle.pack_read.specs.Reads.{Reads}
 use Rattle.pack_read.specs.Held.{OfHeld}
-use Rattle.check_steps.specs.declared.failing.Failing.{Failing}
-use Rattle.check_steps.specs.declared.failing.Failing.TheVariants.{At, Nothing}
 
 -- the number of the first that fails, if one does
-abbrev pub failing_of : Failing → Option ℕ
-failing_of (At i) = some i
-failing_of Nothing = none
+abbrev pub failing_of : Optional ℕ → Option ℕ
+failing_of (Some i) = some i
+failing_of None = none
 
 module _ {A : Type 0} (f : A → Bool) (d : A) (xs : List A) (i : ℕ) where
   -- one that does not fail is passed over

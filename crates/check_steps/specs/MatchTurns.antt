@@ -1,4 +1,5 @@
 -- What a turn of matching comes to, in the order in which code tests.
+use Rattle.std.specs.Prelude.{Some}
 use Rattle.std.specs.Prelude.{◌≡◌, Bool, true, false, ℕ, suc, ◌+◌, ◌-◌, ◌≤◌, ◌<◌, eqb, get_or, take, drop, replicate}
 use Rattle.std.proofs.Math.Path.{sym, ap, subst}
 use Rattle.std.proofs.Common.{◌∙◌, arith, length-append, length-drop, drop-cons}
@@ -21,7 +22,6 @@ use Rattle.base.specs.Part.{put}
 use Rattle.buffer.specs.Zero.{zeros_long, zeros_there}
 use Rattle.base.specs.Stack.{stacked, length-stacked, Took}
 use Rattle.base.specs.declared.stack.Stack.{Stack}
-use Rattle.base.specs.declared.stack.Popped.TheVariants.{Word}
 use Rattle.pack_read.specs.Reads.{rule_words}
 use Rattle.pack_read.specs.Held.{Proper}
 use Rattle.check_steps.specs.Words.{match_words, node-many, node-below, against, length-judged, passes-words}
@@ -56,7 +56,7 @@ module _ (P : Pack) (Q : Proper P) (r : ℕ) (l : r < length P.rules) (stack val
       rw (pending-none P vars (drop i W) (subst (Pending P vars (drop i W)) z M.pending), f)
 
   -- a node is left, and a word
-  module _ (n : ℕ) (t : Stack) (took : Took (stacked s.at s.len stack) s.at stack (Word n t)) where
+  module _ (n : ℕ) (t : Stack) (took : Took (stacked s.at s.len stack) s.at stack (Some (n, t))) where
     on_top : stacked 0 s.len stack ≡ n ∷ stacked 0 t.len stack
     on_top = ap (λ (a : ℕ). stacked a s.len stack) (sym M.base) ∙ took.2 ∙ ap (λ (a : ℕ). n ∷ stacked a t.len stack) M.base
 

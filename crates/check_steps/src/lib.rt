@@ -5,7 +5,6 @@ pub mod matching;
 pub mod pending;
 pub mod values;
 // The verdict on the steps and the goals of a pack that was read.
-pub mod failing;
 pub mod goals;
 pub mod steps;
 pub mod verdict;

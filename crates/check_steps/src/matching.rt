@@ -11,8 +11,7 @@ ghost use Rattle.check_steps.specs.Matching.{Asked, Turned, Ready};
 use crate::pending::push_arguments;
 use crate::values::bind;
 use base::id::{Ground, Prefix};
-use base::stack::{Popped, Stack};
-use buffer::zero::zero_words;
+use base::stack::Stack;
 use pack_read::node::node_head;
 use pack_read::rule::{rule_vars, rule_word};
 use pack_tables::catalog::Catalog;
@@ -40,22 +39,20 @@ fn match_turn(
     requires { Asked pack.now work.now c r vars stack.old values.old s i }
     ensures { Turned pack.now work.now c r stack.old stack.new values.old values.new s i result }
 {
-    match s.pop(stack) {
-        Popped::Word(n, rest) => {
-            let w = rule_word(pack, work, c, r, vars, i);
-            if Prefix::VAR <= w {
-                if bind(values, (w - Prefix::VAR) as usize, Ground(n)) {
-                    return Turn::Next(rest);
-                }
-                return Turn::Fails;
-            }
-            if node_head(pack, work, c, Ground(n)) != w {
-                return Turn::Fails;
-            }
-            Turn::Next(push_arguments(pack, work, c, stack, rest, Ground(n)))
+    let Some((n, rest)) = s.pop(stack) else {
+        return Turn::Done;
+    };
+    let w = rule_word(pack, work, c, r, vars, i);
+    if Prefix::VAR <= w {
+        if bind(values, (w - Prefix::VAR) as usize, Ground(n)) {
+            return Turn::Next(rest);
         }
-        Popped::Empty => Turn::Done,
+        return Turn::Fails;
     }
+    if node_head(pack, work, c, Ground(n)) != w {
+        return Turn::Fails;
+    }
+    Turn::Next(push_arguments(pack, work, c, stack, rest, Ground(n)))
 }
 
 // Whether rule `r` matches the nodes on the stack, its premises in their order and then its conclusion. What the stack and the values'
@@ -73,7 +70,7 @@ pub fn rule_matches(
     ensures { OfHeld pack.now work.now c (λ P. Ready P r stack.old s → result ≡ matched (match_words P (rule_words (rule_of P r)) (stacked 0 s.len stack.old) [])) }
 {
     let vars = rule_vars(pack, work, c, r);
-    zero_words(&mut values[0..vars]);
+    values[0..vars].fill(0);
     let mut left = s;
     let mut i: usize = 0;
     loop {

@@ -23,9 +23,8 @@ pub fn push_arguments(
     ensures { ArgumentsOn pack.now work.now c n.0 stack.old stack.new s result }
 {
     let mut on = s;
-    let mut i = node_arity(pack, work, c, n);
-    while 0 < i {
-        i -= 1;
+    let arity = node_arity(pack, work, c, n);
+    for i in (0..arity).rev() {
         on = on.push(stack, node_argument(pack, work, c, n, i).0);
     }
     on
@@ -38,9 +37,8 @@ pub fn push_judgments(pack: &[u8], work: &[u32], c: Catalog, stack: &mut [u32], 
 {
     let empty = Stack { at: 0, len: 0 };
     let mut on = empty.push(stack, step_judgment(pack, work, c, i).0);
-    let mut k = step_refs(pack, work, c, i);
-    while 0 < k {
-        k -= 1;
+    let refs = step_refs(pack, work, c, i);
+    for k in (0..refs).rev() {
         let r = step_ref(pack, work, c, i, k) as usize;
         on = on.push(stack, step_judgment(pack, work, c, r).0);
     }

@@ -5,7 +5,6 @@ ghost use Rattle.definition.specs.Verdict.{passes, first_failing};
 ghost use Rattle.pack_read.specs.Held.{Held, OfHeld};
 ghost use Rattle.check_steps.specs.First.{failing_of};
 
-use crate::failing::Failing;
 use crate::matching::rule_matches;
 use crate::pending::push_judgments;
 use base::limit::Limit;
@@ -29,20 +28,18 @@ fn step_passes(
     rule_matches(pack, work, c, r, stack, values, on)
 }
 
-// The first step that does not pass.
-pub fn failing_step(pack: &[u8], work: &[u32], c: Catalog) -> Failing
+// The first step that does not pass, if there is one.
+pub fn failing_step(pack: &[u8], work: &[u32], c: Catalog) -> Option<usize>
     requires { Held pack.now work.now c }
     ensures { OfHeld pack.now work.now c (λ P. failing_of result ≡ first_failing (passes P) P.steps 0) }
 {
     let mut stack = [0; Limit::WORDS];
     let mut values = [0; Limit::VARIABLES];
     let steps = c.count(work, Catalog::STEPS);
-    let mut i: usize = 0;
-    while i < steps {
+    for i in 0..steps {
         if !step_passes(pack, work, c, i, &mut stack, &mut values) {
-            return Failing::At(i);
+            return Some(i);
         }
-        i += 1;
     }
-    Failing::Nothing
+    None
 }

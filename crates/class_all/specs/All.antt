@@ -1,4 +1,5 @@
 -- All classes made, as the definition makes them: with each class what is left to do comes to what the whole comes to.
+use Rattle.std.specs.Prelude.{Result, Ok, Err}
 use Rattle.std.specs.Prelude.{◌≡◌, refl, List, [], ℕ, suc, ◌+◌, ◌≤◌, ◌<◌, length, drop}
 use Rattle.std.proofs.Common.{sym, ap, ◌∙◌, subst, arith, drop_of_length-le, drop-cons}
 use Rattle.definition.specs.Pack.{Node, Pack}
@@ -28,8 +29,6 @@ use Rattle.class_premises.specs.Standing.{Standing, standing_keyed}
 use Rattle.class_rule.specs.Done.{Lends, Done, Refused as RefusedRun}
 use Rattle.class_premises.specs.declared.building.Building.{Building}
 use Rattle.class_premises.specs.declared.building.Counted.{Counted}
-use Rattle.class_premises.specs.declared.building.ClassMade.{ClassMade}
-use Rattle.class_premises.specs.declared.building.ClassMade.TheVariants.{Made, Refused}
 use Rattle.class_premises.specs.Buffers.{Buffers, lent, handed, uncounted}
 use Rattle.class_all.specs.Class.{Asks, class_run, Makes, MakingIn, MakesIn}
 use Rattle.class_all.specs.Totals.{Addable, summed, Sums, Low, sums_none, low_none, sums_more, low_more, addable}
@@ -70,21 +69,21 @@ abbrev pub Whatever : List ℕ → List ℕ → List ℕ → List ℕ → List �
 Whatever bytes work class words cells c k l st memo count fill F = (r : KeyCounts) (P : Pack) (b : Built) → Begins bytes work class words cells c k l r st memo count fill P b → F r P b
 
 -- what `make_classes` answers
-abbrev pub Builds : List ℕ → List ℕ → List ℕ → List ℕ → List ℕ → List ℕ → List ℕ → List ℕ → List ℕ → Catalog → Keying → Layout → Store → Memo → ℕ → ℕ → ClassMade → Type 0
-Builds bytes work class words cells work' class' words' cells' c k l st memo count fill (Made s' t) =
+abbrev pub Builds : List ℕ → List ℕ → List ℕ → List ℕ → List ℕ → List ℕ → List ℕ → List ℕ → List ℕ → Catalog → Keying → Layout → Store → Memo → ℕ → ℕ → Result (Building × Counted) Reason → Type 0
+Builds bytes work class words cells work' class' words' cells' c k l st memo count fill (Ok (s', t)) =
     (s' ≡ handed c k l s'.store s'.memo s'.fill)
     × Whatever bytes work class words cells c k l st memo count fill (λ r P b. AllDone class words cells bytes work' class' words' cells' c k l r s'.store s'.memo s'.fill t P b)
     × (words' ≡ written (nodes words' s'.store) words)
     × Outside l.rows l.end work work'
     × Outside fill s'.fill class class'
-Builds bytes work class words cells work' class' words' cells' c k l st memo count fill (Refused x) =
+Builds bytes work class words cells work' class' words' cells' c k l st memo count fill (Err x) =
     Whatever bytes work class words cells c k l st memo count fill (λ r P b. RefusedRun class words cells (all_run P b) x)
 
 -- both of buffers that are lent and what is at hand
 abbrev pub BeginningIn : Buffers → Building → ℕ → Type 0
 BeginningIn B s count = Beginning B.pack B.work B.class B.pattern B.graph s.catalog s.keying s.layout s.store s.memo count s.fill
 
-abbrev pub BuildsIn : Buffers → Buffers → Building → ℕ → ClassMade → Type 0
+abbrev pub BuildsIn : Buffers → Buffers → Building → ℕ → Result (Building × Counted) Reason → Type 0
 BuildsIn B B' s count r =
     Builds B.pack B.work B.class B.pattern B.graph B'.work B'.class B'.pattern B'.graph s.catalog s.keying s.layout s.store s.memo count s.fill r
 
@@ -185,21 +184,21 @@ module _ (bytes work class words cells : List ℕ) (c : Catalog) (k : Keying) (l
         })
 
         -- what is at hand has its places
-        placed : (work'' class'' words'' cells'' : List ℕ) (m : ClassMade) → MakesIn (lent bytes class' words' cells' work') (lent bytes class'' words'' cells'' work'') s i m
+        placed : (work'' class'' words'' cells'' : List ℕ) (m : Result (Building × Counted) Reason) → MakesIn (lent bytes class' words' cells' work') (lent bytes class'' words'' cells'' work'') s i m
             → Makes bytes work' class' words' cells' work'' class'' words'' cells'' c k l s.store s.memo s.fill i m
         placed work'' class'' words'' cells'' m M = subst (λ (x : Building). MakesIn (lent bytes class' words' cells' work') (lent bytes class'' words'' cells'' work'') x i m) T.same M
 
         -- it is refused
-        pub turned_refused : (work'' class'' words'' cells'' : List ℕ) (x : Reason) → MakesIn (lent bytes class' words' cells' work') (lent bytes class'' words'' cells'' work'') s i (Refused x)
-            → Builds bytes work class words cells work'' class'' words'' cells'' c k l st memo count fill (Refused x)
+        pub turned_refused : (work'' class'' words'' cells'' : List ℕ) (x : Reason) → MakesIn (lent bytes class' words' cells' work') (lent bytes class'' words'' cells'' work'') s i (Err x)
+            → Builds bytes work class words cells work'' class'' words'' cells'' c k l st memo count fill (Err x)
         turned_refused work'' class'' words'' cells'' x M r P b B L e =
             let E = T.each r P b B in
-            E.left L e ∙ left-refused P E.built i (omega (arith, h, begins_all r P b B)) L x (placed work'' class'' words'' cells'' (Refused x) M r P E.built (asks r P b B) L (lends L e))
+            E.left L e ∙ left-refused P E.built i (omega (arith, h, begins_all r P b B)) L x (placed work'' class'' words'' cells'' (Err x) M r P E.built (asks r P b B) L (lends L e))
 
         -- it is made
-        module _ (work'' class'' words'' cells'' : List ℕ) (s'' : Building) (f : Counted) (Q : MakesIn (lent bytes class' words' cells' work') (lent bytes class'' words'' cells'' work'') s i (Made s'' f)) where
-          abbrev M : Makes bytes work' class' words' cells' work'' class'' words'' cells'' c k l s.store s.memo s.fill i (Made s'' f)
-          M = placed work'' class'' words'' cells'' (Made s'' f) Q
+        module _ (work'' class'' words'' cells'' : List ℕ) (s'' : Building) (f : Counted) (Q : MakesIn (lent bytes class' words' cells' work') (lent bytes class'' words'' cells'' work'') s i (Ok (s'', f))) where
+          abbrev M : Makes bytes work' class' words' cells' work'' class'' words'' cells'' c k l s.store s.memo s.fill i (Ok (s'', f))
+          M = placed work'' class'' words'' cells'' (Ok (s'', f)) Q
 
           -- of one pack and what was built of it
           done : (r : KeyCounts) (P : Pack) (b : Built) (B : Begins bytes work class words cells c k l r st memo count fill P b)
@@ -251,7 +250,7 @@ module _ (bytes work class words cells : List ℕ) (c : Catalog) (k : Keying) (l
           }
 
       -- all are made
-      pub turned_all : count ≤ i → Builds bytes work class words cells work' class' words' cells' c k l st memo count fill (Made s t)
+      pub turned_all : count ≤ i → Builds bytes work class words cells work' class' words' cells' c k l st memo count fill (Ok (s, t))
       turned_all h = (
         T.same,
         (λ r P b B.

@@ -1,4 +1,5 @@
 -- One class made, as the definition makes it.
+use Rattle.std.specs.Prelude.{Result, Ok, Err}
 use Rattle.std.specs.Prelude.{◌≡◌, refl, Bool, true, false, List, ℕ, ◌+◌, ◌<◌, length, get_or}
 use Rattle.std.proofs.Common.{sym, ◌∙◌}
 use Rattle.std.proofs.Math.Path.{ap, subst}
@@ -33,9 +34,8 @@ use Rattle.class_rule.specs.Done.{Done, Refused as RefusedRun}
 use Rattle.class_rule.specs.Making as rules
 use Rattle.class_premises.specs.declared.building.Building.{Building}
 use Rattle.class_premises.specs.declared.building.Counted.{Counted}
-use Rattle.class_premises.specs.declared.building.ClassMade.{ClassMade}
-use Rattle.class_premises.specs.declared.building.ClassMade.TheVariants.{Made, Refused}
 use Rattle.class_premises.specs.Buffers.{Buffers, handed}
+use Rattle.definition.specs.declared.Refusal.{Refusal}
 
 -- ---- what is asked and answered
 -- a step's rule, and how many variables and premises that has
@@ -68,21 +68,21 @@ abbrev pub Whatever : List ℕ → List ℕ → List ℕ → List ℕ → List �
 Whatever bytes work class words cells c k l st memo fill i F = (r : KeyCounts) (P : Pack) (b : Built) → Asks bytes work class words cells c k l r st memo fill i P b → F r P b
 
 -- what `make_class` answers
-abbrev pub Makes : List ℕ → List ℕ → List ℕ → List ℕ → List ℕ → List ℕ → List ℕ → List ℕ → List ℕ → Catalog → Keying → Layout → Store → Memo → ℕ → ℕ → ClassMade → Type 0
-Makes bytes work class words cells work' class' words' cells' c k l st memo fill i (Made s' f) =
+abbrev pub Makes : List ℕ → List ℕ → List ℕ → List ℕ → List ℕ → List ℕ → List ℕ → List ℕ → List ℕ → Catalog → Keying → Layout → Store → Memo → ℕ → ℕ → Result (Building × Counted) Refusal → Type 0
+Makes bytes work class words cells work' class' words' cells' c k l st memo fill i (Ok (s', f)) =
     (s' ≡ handed c k l s'.store s'.memo s'.fill)
     × Whatever bytes work class words cells c k l st memo fill i (λ r P b. Done class words cells bytes work' class' words' cells' c k l r s'.store s'.memo s'.fill f P b (class_run P b i))
     × (words' ≡ written (nodes words' s'.store) words)
     × Outside l.rows l.end work work'
     × Outside fill s'.fill class class'
-Makes bytes work class words cells work' class' words' cells' c k l st memo fill i (Refused x) =
+Makes bytes work class words cells work' class' words' cells' c k l st memo fill i (Err x) =
     Whatever bytes work class words cells c k l st memo fill i (λ r P b. RefusedRun class words cells (class_run P b i) x)
 
 -- both of buffers that are lent and what is at hand
 abbrev pub MakingIn : Buffers → Building → ℕ → Type 0
 MakingIn B s i = Making B.pack B.work B.class B.pattern B.graph s.catalog s.keying s.layout s.store s.memo s.fill i
 
-abbrev pub MakesIn : Buffers → Buffers → Building → ℕ → ClassMade → Type 0
+abbrev pub MakesIn : Buffers → Buffers → Building → ℕ → Result (Building × Counted) Refusal → Type 0
 MakesIn B B' s i r =
     Makes B.pack B.work B.class B.pattern B.graph B'.work B'.class B'.pattern B'.graph s.catalog s.keying s.layout s.store s.memo s.fill i r
 
@@ -197,10 +197,10 @@ module _ (bytes work class words cells : List ℕ) (c : Catalog) (k : Keying) (l
           making-cut = record { cells = cells; counts = K.counts; memo = memo; pack = K.pack; built = K.built; asks = asks_cut K.counts K.pack K.built K.asks; small = K.small }
 
           -- it is made, or not
-          pub makes_cut : (work' class' words' : List ℕ) (m : ClassMade) → cuts.Cuts bytes work class words work' class' words' c k l st memo fill i p m
+          pub makes_cut : (work' class' words' : List ℕ) (m : Result (Building × Counted) Refusal) → cuts.Cuts bytes work class words work' class' words' c k l st memo fill i p m
               → Makes bytes work class words cells work' class' words' cells c k l st memo fill i m
           unfolding class_vars_of flex_vars_of
-          makes_cut work' class' words' (Made s' f) C =
+          makes_cut work' class' words' (Ok (s', f)) C =
               let known : s'.memo ≡ memo = ap (λ (x : Building). x.memo) C.0 in (
                 C.0 ∙ ap (λ (x : Memo). handed c k l s'.store x s'.fill) (sym known),
                 (λ r P b A.
@@ -225,7 +225,7 @@ module _ (bytes work class words cells : List ℕ) (c : Catalog) (k : Keying) (l
                 (let laid = K.asks.standing.placed.laid in outside_wider l.rows l.copied l.rows l.end work work' (omega arith) (omega (arith, laid.memo, laid.stack, laid.variables, laid.table)) C.4),
                 C.5,
               )
-          makes_cut work' class' words' (Refused x) C = λ r P b A L v. ap (outcome L) (run-cut r P b A) ∙ C cells r memo P b (asks_cut r P b A) L v.words_long v.class_long
+          makes_cut work' class' words' (Err x) C = λ r P b A L v. ap (outcome L) (run-cut r P b A) ∙ C cells r memo P b (asks_cut r P b A) L v.words_long v.class_long
 
         -- ---- it is not
         module _ (e : t ≡ false) (u : Ruling) (step_is : u.step ≡ s) (U : OfHeld bytes work c (λ P. RulingOf P u)) where
@@ -253,13 +253,13 @@ module _ (bytes work class words cells : List ℕ) (c : Catalog) (k : Keying) (l
           }
 
           -- it is made, or not
-          pub makes_rule : (work' class' words' cells' : List ℕ) (m : ClassMade) → rules.Makes bytes work class words cells work' class' words' cells' c k l st memo u fill i m
+          pub makes_rule : (work' class' words' cells' : List ℕ) (m : Result (Building × Counted) Refusal) → rules.Makes bytes work class words cells work' class' words' cells' c k l st memo u fill i m
               → Makes bytes work class words cells work' class' words' cells' c k l st memo fill i m
-          makes_rule work' class' words' cells' (Made s' f) D = (
+          makes_rule work' class' words' cells' (Ok (s', f)) D = (
             D.0,
             (λ r P b A. subst (Done class words cells bytes work' class' words' cells' c k l r s'.store s'.memo s'.fill f P b) (sym (run-rule r P b A)) (D.1 r P b (asks_rule r P b A))),
             D.2,
             D.3,
             D.4,
           )
-          makes_rule work' class' words' cells' (Refused x) D = λ r P b A L v. ap (outcome L) (run-rule r P b A) ∙ D r P b (asks_rule r P b A) L v
+          makes_rule work' class' words' cells' (Err x) D = λ r P b A L v. ap (outcome L) (run-rule r P b A) ∙ D r P b (asks_rule r P b A) L v

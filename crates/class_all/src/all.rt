@@ -4,7 +4,8 @@ ghost use Rattle.class_all.specs.All.{BeginningIn, BuildsIn};
 
 use crate::class::make_class;
 use crate::totals::add_counted;
-use class_premises::building::{Building, ClassMade, Counted};
+use class_premises::building::{Building, Counted};
+use definition::Refusal;
 
 // The `count` classes that the keys count, where none is made yet, with the sums of what figures count. A refusal leaves open what all
 // buffers but the pack hold then.
@@ -16,24 +17,16 @@ pub fn make_classes(
     cells: &mut [u32],
     s: Building,
     count: usize,
-) -> ClassMade
+) -> Result<(Building, Counted), Refusal>
     requires { BeginningIn (lent pack.now class.old words.old cells.old work.old) s count }
     ensures { BuildsIn (lent pack.now class.old words.old cells.old work.old) (lent pack.now class.new words.new cells.new work.new) s count result }
 {
     let mut at = s;
     let mut sums = Counted::NONE;
-    let mut i: usize = 0;
-    while i < count {
-        match make_class(pack, work, class, words, cells, at, i) {
-            ClassMade::Made(more, f) => {
-                sums = add_counted(sums, f);
-                at = more;
-                i += 1;
-            }
-            ClassMade::Refused(x) => {
-                return ClassMade::Refused(x);
-            }
-        }
+    for i in 0..count {
+        let (more, f) = make_class(pack, work, class, words, cells, at, i)?;
+        sums = add_counted(sums, f);
+        at = more;
     }
-    ClassMade::Made(at, sums)
+    Ok((at, sums))
 }

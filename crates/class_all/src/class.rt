@@ -8,9 +8,10 @@ ghost use Rattle.class_all.specs.Class.{RulingOf, MakingIn, MakesIn};
 use class_cut::cut::make_cut;
 use class_keys::classes::class_first;
 use class_keys::cut::{step_is_cut, step_predicate};
-use class_premises::building::{Building, ClassMade};
+use class_premises::building::{Building, Counted};
 use class_premises::premises::Ruling;
 use class_rule::rule::make_rule;
+use definition::Refusal;
 use pack_read::rule::{rule_premises, rule_vars};
 use pack_read::step::step_rule;
 use pack_tables::catalog::Catalog;
@@ -26,8 +27,8 @@ fn step_ruling(pack: &[u8], work: &[u32], c: Catalog, s: usize) -> Ruling
     Ruling {
         step: s,
         rule: r,
-        vars: vars,
-        premises: premises,
+        vars,
+        premises,
     }
 }
 
@@ -40,7 +41,7 @@ pub fn make_class(
     cells: &mut [u32],
     s: Building,
     i: usize,
-) -> ClassMade
+) -> Result<(Building, Counted), Refusal>
     requires { MakingIn (lent pack.now class.old words.old cells.old work.old) s i }
     ensures { MakesIn (lent pack.now class.old words.old cells.old work.old) (lent pack.now class.new words.new cells.new work.new) s i result }
 {

@@ -1,4 +1,5 @@
 -- What class building comes to: the classes, the goals' tests and the figures, as the definition has them.
+use Rattle.std.specs.Prelude.{Result, Ok, Err}
 use Rattle.std.specs.Prelude.{◌≡◌, List, ℕ, ◌+◌, ◌*◌, ◌≤◌, ◌<◌, length, take}
 use Rattle.std.proofs.Common.{◌∙◌}
 use Rattle.definition.specs.Pack.{Pack}
@@ -28,10 +29,6 @@ use Rattle.class_premises.specs.declared.building.Counted.{Counted}
 use Rattle.class_premises.specs.declared.building.Building.{Building}
 use Rattle.class_premises.specs.Buffers.{Buffers, lent}
 use Rattle.class_build.specs.Ready.{unbuilt}
-use Rattle.class_build.specs.declared.build.Answer.{Answer}
-use Rattle.class_build.specs.declared.build.Answer.TheVariants as answers
-use Rattle.class_build.specs.declared.build.Classes.{Classes}
-use Rattle.class_build.specs.declared.build.Classes.TheVariants as made
 
 -- ---- the goals
 -- all classes of pack P are made, and these are the sums
@@ -49,18 +46,18 @@ pub record Testing (bytes work class words cells : List ℕ) (c : Catalog) (k : 
   pub room : l.copied + (4 * length words + 2 * (length cells + 16) + 2 * l.nodes) ≤ length work
 
 -- what `finish` answers
-abbrev pub Ends : List ℕ → List ℕ → List ℕ → List ℕ → List ℕ → Catalog → Keying → Layout → Counts → Store → ℕ → Counted → Answer → Type 0
-Ends bytes work class words cells c k l r st fill sums (answers.Done n m f) =
+abbrev pub Ends : List ℕ → List ℕ → List ℕ → List ℕ → List ℕ → Catalog → Keying → Layout → Counts → Store → ℕ → Counted → Result (ℕ × ℕ × Figures) Refusal → Type 0
+Ends bytes work class words cells c k l r st fill sums (Ok (n, m, f)) =
     (n ≡ fill) × (m ≡ st.used)
     × ((P : Pack) (b : Built) → Ended bytes work class words cells c k l r st fill sums P b → (rs : List Root) × ((L : Lent) → outcome L (test_goals P b 0 P.goals) ≡ fine rs) × (f ≡ figures P b))
-Ends bytes work class words cells c k l r st fill sums (answers.Refused x) =
+Ends bytes work class words cells c k l r st fill sums (Err x) =
     (P : Pack) (b : Built) → Ended bytes work class words cells c k l r st fill sums P b → (L : Lent) → outcome L (test_goals P b 0 P.goals) ≡ refuse x
 
 -- both of buffers that are lent and what is at hand
 abbrev pub TestingIn : Buffers → Building → Counts → Counted → Type 0
 TestingIn B s r sums = Testing B.pack B.work B.class B.pattern B.graph s.catalog s.keying s.layout r s.store s.fill sums
 
-abbrev pub EndsIn : Buffers → Building → Counts → Counted → Answer → Type 0
+abbrev pub EndsIn : Buffers → Building → Counts → Counted → Result (ℕ × ℕ × Figures) Refusal → Type 0
 EndsIn B s r sums a = Ends B.pack B.work B.class B.pattern B.graph s.catalog s.keying s.layout r s.store s.fill sums a
 
 -- ---- the classes
@@ -96,24 +93,24 @@ OfBegun bytes work class words cells c k l r st memo fill F =
     (P : Pack) → Begun bytes work class words cells c k l r st memo fill P → ((L : Lent) → L.class ≡ length class → outcome L (build_classes P) ≡ outcome L (rest_run P)) → F P
 
 -- what `make_from` answers
-abbrev pub Goes : List ℕ → List ℕ → List ℕ → List ℕ → List ℕ → List ℕ → List ℕ → List ℕ → List ℕ → Catalog → Keying → Layout → Counts → Store → Memo → ℕ → Classes → Type 0
-Goes bytes work class words cells work' class' words' cells' c k l r st memo fill (made.Made s n sums) =
+abbrev pub Goes : List ℕ → List ℕ → List ℕ → List ℕ → List ℕ → List ℕ → List ℕ → List ℕ → List ℕ → Catalog → Keying → Layout → Counts → Store → Memo → ℕ → Result (Building × Counts × Counted) Refusal → Type 0
+Goes bytes work class words cells work' class' words' cells' c k l r st memo fill (Ok (s, n, sums)) =
     (s.catalog ≡ c) × OfBegun bytes work class words cells c k l r st memo fill (MadeAll bytes class words cells work' class' words' cells' s n sums)
     × TestingIn (lent bytes class' words' cells' work') s n sums
-Goes bytes work class words cells work' class' words' cells' c k l r st memo fill (made.Refused x) = OfBegun bytes work class words cells c k l r st memo fill (Unbuilt class words cells x)
+Goes bytes work class words cells work' class' words' cells' c k l r st memo fill (Err x) = OfBegun bytes work class words cells c k l r st memo fill (Unbuilt class words cells x)
 
 -- both of buffers that are lent and what is at hand
 abbrev pub BeginningIn : Buffers → Building → Counts → Type 0
 BeginningIn B s r = Beginning B.pack B.work B.class B.pattern B.graph s.catalog s.keying s.layout r s.store s.memo s.fill
 
-abbrev pub GoesIn : Buffers → Buffers → Building → Counts → Classes → Type 0
+abbrev pub GoesIn : Buffers → Buffers → Building → Counts → Result (Building × Counts × Counted) Refusal → Type 0
 GoesIn B B' s r a = Goes B.pack B.work B.class B.pattern B.graph B'.work B'.class B'.pattern B'.graph s.catalog s.keying s.layout r s.store s.memo s.fill a
 
 -- what `build_classes` answers of the pack that is held
-abbrev pub BuildsClasses : List ℕ → List ℕ → List ℕ → List ℕ → List ℕ → List ℕ → List ℕ → List ℕ → List ℕ → Catalog → Classes → Type 0
-BuildsClasses bytes work class words cells work' class' words' cells' c (made.Made s r sums) =
+abbrev pub BuildsClasses : List ℕ → List ℕ → List ℕ → List ℕ → List ℕ → List ℕ → List ℕ → List ℕ → List ℕ → Catalog → Result (Building × Counts × Counted) Refusal → Type 0
+BuildsClasses bytes work class words cells work' class' words' cells' c (Ok (s, r, sums)) =
     (s.catalog ≡ c) × OfHeld bytes work c (MadeAll bytes class words cells work' class' words' cells' s r sums) × TestingIn (lent bytes class' words' cells' work') s r sums
-BuildsClasses bytes work class words cells work' class' words' cells' c (made.Refused x) = OfHeld bytes work c (Unbuilt class words cells x)
+BuildsClasses bytes work class words cells work' class' words' cells' c (Err x) = OfHeld bytes work c (Unbuilt class words cells x)
 
 -- ---- the whole
 -- the definition's run is done, and these are its words and figures
@@ -128,9 +125,9 @@ pub record Answered (class words cells class' words' : List ℕ) (n m : ℕ) (f 
   pub counted : f ≡ figures P built
 
 -- what `build` answers of the pack that is held
-abbrev pub Builds : List ℕ → List ℕ → List ℕ → List ℕ → List ℕ → List ℕ → List ℕ → Catalog → Answer → Type 0
-Builds bytes work class words cells class' words' c (answers.Done n m f) = OfHeld bytes work c (Answered class words cells class' words' n m f)
-Builds bytes work class words cells class' words' c (answers.Refused x) = OfHeld bytes work c (λ P. (L : Lent) → Lends L class words cells → outcome L (class_run P) ≡ refuse x)
+abbrev pub Builds : List ℕ → List ℕ → List ℕ → List ℕ → List ℕ → List ℕ → List ℕ → Catalog → Result (ℕ × ℕ × Figures) Refusal → Type 0
+Builds bytes work class words cells class' words' c (Ok (n, m, f)) = OfHeld bytes work c (Answered class words cells class' words' n m f)
+Builds bytes work class words cells class' words' c (Err x) = OfHeld bytes work c (λ P. (L : Lent) → Lends L class words cells → outcome L (class_run P) ≡ refuse x)
 
 -- ---- the definition's run, part by part
 module _ (L : Lent) (P : Pack) where

@@ -1,13 +1,14 @@
 -- One goal after the other: with each that is met the goals left give what all give.
+use Rattle.std.specs.Prelude.{Result, Ok, Err}
 use Rattle.std.specs.Prelude.{◌≡◌, List, [], ◌∷◌, ◌++◌, ℕ, ◌+◌, ◌≤◌, ◌<◌, length}
-use Rattle.std.proofs.Common.{arith}
+use Rattle.std.proofs.Common.{ap, ◌∙◌, arith}
 use Rattle.definition.specs.Pack.{Pack}
 use Rattle.definition.specs.Frame.{fine, refuse}
 use Rattle.definition.specs.Answer.{Lent}
 use Rattle.definition.specs.Classes.{Built}
 use Rattle.definition.specs.Run.{outcome}
 use Rattle.definition.specs.Goals.{Root, test_goals}
-use Rattle.definition.specs.declared.Refusal.TheVariants.{Goal as Unmet, Instance as Unlike}
+use Rattle.definition.specs.declared.Refusal.{Refusal}
 use Rattle.base.specs.Outside.{Outside, outside_none, outside_then}
 use Rattle.pack_tables.specs.Catalog.{records_of}
 use Rattle.pack_tables.specs.declared.catalog.Catalog.{Catalog}
@@ -18,22 +19,17 @@ use Rattle.class_keys.specs.declared.classes.Keying.{Keying}
 use Rattle.class_premises.specs.declared.layout.Layout.{Layout}
 use Rattle.term_instance.specs.Held.{Kept, given_on}
 use Rattle.term_instance.specs.declared.tables.Instance.{Instance}
-use Rattle.class_build.specs.declared.goals_each.Tested.{Tested}
-use Rattle.class_build.specs.declared.goals_each.Tested.TheVariants as answers
-use Rattle.class_build.specs.declared.goal.Goal.TheVariants as one
 use Rattle.class_build.specs.Runs.{Left, left-all, left_end, left-refused, left_on}
 use Rattle.class_build.specs.Testable.{Ready, Testable, ready_on}
 use Rattle.class_build.specs.OneGoal.{OfReady, TestsOne}
 
 -- the tests come to something; or to a refusal
-abbrev pub TestsEach : (bytes work work' class words : List ℕ) (c : Catalog) (k : Keying) (l : Layout) (t : Instance) (st : Store) → Tested → Type 0
-TestsEach bytes work work' class words c k l t st (answers.Met seen values) =
+abbrev pub TestsEach : (bytes work work' class words : List ℕ) (c : Catalog) (k : Keying) (l : Layout) (t : Instance) (st : Store) → Result (Memo × Memo) Refusal → Type 0
+TestsEach bytes work work' class words c k l t st (Ok (seen, values)) =
     Kept t seen values work work'
     × OfReady bytes work class words c k l t st (λ P b. (rs : List Root) × ((L : Lent) → outcome L (test_goals P b 0 P.goals) ≡ fine rs))
-TestsEach bytes work work' class words c k l t st (answers.Unmet i) =
-    Outside t.pairs t.end work work' × OfReady bytes work class words c k l t st (λ P b. (L : Lent) → outcome L (test_goals P b 0 P.goals) ≡ refuse (Unmet i))
-TestsEach bytes work work' class words c k l t st (answers.Other s) =
-    Outside t.pairs t.end work work' × OfReady bytes work class words c k l t st (λ P b. (L : Lent) → outcome L (test_goals P b 0 P.goals) ≡ refuse (Unlike s))
+TestsEach bytes work work' class words c k l t st (Err z) =
+    Outside t.pairs t.end work work' × OfReady bytes work class words c k l t st (λ P b. (L : Lent) → outcome L (test_goals P b 0 P.goals) ≡ refuse z)
 
 -- the words ahead of the tables are as they were, and the goals from g on give all
 pub record Going (bytes work work' class words : List ℕ) (c : Catalog) (k : Keying) (l : Layout) (t : Instance) (st : Store) (seen values : Memo) (g : ℕ) : Type 0 where
@@ -73,7 +69,7 @@ module _ (bytes work class words : List ℕ) (c : Catalog) (k : Keying) (l : Lay
         omega (arith, goal-given g h T.pack T.built T.ready, length_goals bytes (records_of work' c) T.pack R.reads)
 
     -- none is left
-    pub going_met : length (records_of work c 5) ≤ g → TestsEach bytes work work' class words c k l t st (answers.Met seen values)
+    pub going_met : length (records_of work c 5) ≤ g → TestsEach bytes work work' class words c k l t st (Ok (seen, values))
     going_met h = (
       G.kept,
       λ P b R. ((G.left P b R).0, left_end P b g (G.left P b R).0 (G.left P b R).1 (omega (arith, h, length_goals bytes (records_of work c) P R.reads))),
@@ -81,7 +77,7 @@ module _ (bytes work class words : List ℕ) (c : Catalog) (k : Keying) (l : Lay
 
     module _ (h : g < length (records_of work c 5)) (work'' : List ℕ) where
       -- it is met
-      pub going_on : (seen' values' : Memo) (row : ℕ) → TestsOne bytes work' work'' class words c k l t st g (one.Met seen' values' row) → Going bytes work work'' class words c k l t st seen' values' (g + 1)
+      pub going_on : (seen' values' : Memo) (row : ℕ) → TestsOne bytes work' work'' class words c k l t st g (Ok (seen', values', row)) → Going bytes work work'' class words c k l t st seen' values' (g + 1)
       going_on seen' values' row N = record {
         kept = record { outside = outside_then t.pairs t.end work work' work'' G.kept.outside N.0.outside; seen-kept = N.0.seen-kept; values-kept = N.0.values-kept };
         left = λ P b R.
@@ -90,16 +86,9 @@ module _ (bytes work class words : List ℕ) (c : Catalog) (k : Keying) (l : Lay
             (K.0 ++ (D.0 ∷ []), left_on P b g K.0 K.1 (goal-given g h P b R) D.0 (λ L. D.1 g L));
       }
 
-      -- it has no result, or one with another judgment
-      pub going_unmet : TestsOne bytes work' work'' class words c k l t st g one.Unmet → TestsEach bytes work work'' class words c k l t st (answers.Unmet g)
-      going_unmet N = (
+      -- it is refused
+      pub going_refused : (z : Refusal) → TestsOne bytes work' work'' class words c k l t st g (Err z) → TestsEach bytes work work'' class words c k l t st (Err z)
+      going_refused z N = (
         outside_then t.pairs t.end work work' work'' G.kept.outside N.0,
-        λ P b R L. left-refused P b g (G.left P b R).0 (G.left P b R).1 (goal-given g h P b R) L (Unmet g) (N.1 P b (going_read P b R) g L),
-      )
-
-      -- its judgment is no instance
-      pub going_other : (s : ℕ) → TestsOne bytes work' work'' class words c k l t st g (one.Other s) → TestsEach bytes work work'' class words c k l t st (answers.Other s)
-      going_other s N = (
-        outside_then t.pairs t.end work work' work'' G.kept.outside N.0,
-        λ P b R L. left-refused P b g (G.left P b R).0 (G.left P b R).1 (goal-given g h P b R) L (Unlike s) (N.1 P b (going_read P b R) g L),
+        λ P b R L. left-refused P b g (G.left P b R).0 (G.left P b R).1 (goal-given g h P b R) L z (N.2 P b (going_read P b R) g L ∙ ap (λ (x : Refusal). refuse x) N.1),
       )

@@ -1,4 +1,5 @@
 -- Class building part by part: all made ready, then all classes, then the goals.
+use Rattle.std.specs.Prelude.{Some, None, Result, Ok, Err}
 use Rattle.std.specs.Prelude.{◌≡◌, refl, List, ℕ, ◌<◌, length}
 use Rattle.std.proofs.Common.{sym, ap, ◌∙◌, subst, arith}
 use Rattle.definition.specs.Pack.{Pack}
@@ -19,16 +20,11 @@ use Rattle.class_rule.specs.Done.{Lends}
 use Rattle.class_all.specs.All as all
 use Rattle.class_premises.specs.declared.building.Building.{Building}
 use Rattle.class_premises.specs.declared.building.Counted.{Counted}
-use Rattle.class_premises.specs.declared.building.ClassMade.TheVariants as classes
 use Rattle.class_premises.specs.Buffers.{lent}
 use Rattle.class_build.specs.Ready.{Opened, Readies, Starts, unbuilt}
-use Rattle.class_build.specs.declared.ready.Ready.TheVariants as ready
 use Rattle.class_build.specs.LeftWords.{class_words_law, class_fits, pattern_words_law, pattern_fits}
 use Rattle.class_build.specs.Build.{Ended, TestingIn, EndsIn, Begun, Beginning, Goes, BuildsClasses, Builds, run-unbuilt, run_untested, run-done}
-use Rattle.class_build.specs.declared.build.Answer.{Answer}
-use Rattle.class_build.specs.declared.build.Answer.TheVariants as answers
-use Rattle.class_build.specs.declared.build.Classes.{Classes}
-use Rattle.class_build.specs.declared.build.Classes.TheVariants as made
+use Rattle.definition.specs.declared.Figures.{Figures}
 
 -- ---- all classes from the first on
 module _ (bytes work class words cells : List ℕ) (c : Catalog) (k : Keying) (l : Layout) (r : Counts) (st : Store) (memo : Memo) (fill : ℕ) where
@@ -40,12 +36,12 @@ module _ (bytes work class words cells : List ℕ) (c : Catalog) (k : Keying) (l
   begins_classes K = record { counts = r; pack = K.pack; built = unbuilt K.pack; begins = begins K.pack K.begun; small_cells = K.small_cells; small = K.small_class }
 
   -- one is refused
-  pub goes_unbuilt : (work' class' words' cells' : List ℕ) (x : Refusal) → all.Builds bytes work class words cells work' class' words' cells' c k l st memo r.classes fill (classes.Refused x) → Goes bytes work class words cells work' class' words' cells' c k l r st memo fill (made.Refused x)
+  pub goes_unbuilt : (work' class' words' cells' : List ℕ) (x : Refusal) → all.Builds bytes work class words cells work' class' words' cells' c k l st memo r.classes fill (Err x) → Goes bytes work class words cells work' class' words' cells' c k l r st memo fill (Err x)
   goes_unbuilt work' class' words' cells' x B P S same L e = same L e.class_long ∙ B r P (unbuilt P) (begins P S) L e
 
   -- all are made
   module _ (work' class' words' cells' : List ℕ) (s : Building) (t : Counted)
-      (B : all.Builds bytes work class words cells work' class' words' cells' c k l st memo r.classes fill (classes.Made s t)) where
+      (B : all.Builds bytes work class words cells work' class' words' cells' c k l st memo r.classes fill (Ok (s, t))) where
     done : (P : Pack) → Begun bytes work class words cells c k l r st memo fill P → all.AllDone class words cells bytes work' class' words' cells' c k l r s.store s.memo s.fill t P (unbuilt P)
     done P S = B.1 r P (unbuilt P) (begins P S)
 
@@ -58,7 +54,7 @@ module _ (bytes work class words cells : List ℕ) (c : Catalog) (k : Keying) (l
         subst (λ (x : Building). TestingIn (lent bytes class' words' cells' work') x r t) (sym B.0)
         (record { pack = K.pack; built = (done K.pack K.begun).built; ended = ended K.pack K.begun; room = omega (arith, K.room, w, z, B.3.long) })
 
-    pub goes_made : Beginning bytes work class words cells c k l r st memo fill → length words' ≡ length words → length cells' ≡ length cells → Goes bytes work class words cells work' class' words' cells' c k l r st memo fill (made.Made s r t)
+    pub goes_made : Beginning bytes work class words cells c k l r st memo fill → length words' ≡ length words → length cells' ≡ length cells → Goes bytes work class words cells work' class' words' cells' c k l r st memo fill (Ok (s, r, t))
     goes_made K w z = (
       ap (λ (x : Building). x.catalog) B.0,
       (λ P S same.
@@ -74,11 +70,11 @@ module _ (bytes work class words cells : List ℕ) (c : Catalog) (k : Keying) (l
 -- ---- all made ready, then all classes
 module _ (bytes work class words cells : List ℕ) (c : Catalog) where
   -- the class buffer is too short
-  pub classes_short : (work₁ class₁ : List ℕ) → Readies bytes work class words cells work₁ class₁ c ready.Short → (work' class' words' cells' : List ℕ)
-      → BuildsClasses bytes work class words cells work' class' words' cells' c (made.Refused (refusals.Short 1))
+  pub classes_short : (work₁ class₁ : List ℕ) → Readies bytes work class words cells work₁ class₁ c None → (work' class' words' cells' : List ℕ)
+      → BuildsClasses bytes work class words cells work' class' words' cells' c (Err (refusals.Short 1))
   classes_short work₁ class₁ S work' class' words' cells' P R Q L e = (S P R Q).is L e.class_long
 
-  module _ (work₁ class₁ : List ℕ) (k : Keying) (l : Layout) (r : Counts) (st : Store) (memo : Memo) (long : length class₁ ≡ length class) (S : Readies bytes work class words cells work₁ class₁ c (ready.On k l r st memo)) where
+  module _ (work₁ class₁ : List ℕ) (k : Keying) (l : Layout) (r : Counts) (st : Store) (memo : Memo) (long : length class₁ ≡ length class) (S : Readies bytes work class words cells work₁ class₁ c (Some (record { keying = k; layout = l; counts = r; store = st; memo = memo }))) where
     -- the steps may be counted
     pub count_there : Opened bytes work words cells c → Fits work₁ c × (4 < 9)
     count_there O =
@@ -104,8 +100,8 @@ module _ (bytes work class words cells : List ℕ) (c : Catalog) where
           record { pack = H.pack; begun = begun H.pack A; room = A.tests; small_class = omega (arith, long); small_cells = small_cells }
 
       -- what they come to
-      pub classes_on : (work' class' words' cells' : List ℕ) (a : Classes) → Goes bytes work₁ class₁ words cells work' class' words' cells' c k l r st memo fill a → BuildsClasses bytes work class words cells work' class' words' cells' c a
-      classes_on work' class' words' cells' (made.Made s n t) G = (
+      pub classes_on : (work' class' words' cells' : List ℕ) (a : Result (Building × Counts × Counted) Refusal) → Goes bytes work₁ class₁ words cells work' class' words' cells' c k l r st memo fill a → BuildsClasses bytes work class words cells work' class' words' cells' c a
+      classes_on work' class' words' cells' (Ok (s, n, t)) G = (
         G.0,
         (λ P R Q.
             let A = S.0 P R Q in
@@ -113,18 +109,18 @@ module _ (bytes work class words cells : List ℕ) (c : Catalog) where
             record { built = N.built; is = λ L e. N.is L (same-lent L e); ended = N.ended }),
         G.2,
       )
-      classes_on work' class' words' cells' (made.Refused x) G = λ P R Q L e. let A = S.0 P R Q in G P (begun P A) (λ K q. A.is K (q ∙ long)) L (same-lent L e)
+      classes_on work' class' words' cells' (Err x) G = λ P R Q L e. let A = S.0 P R Q in G P (begun P A) (λ K q. A.is K (q ∙ long)) L (same-lent L e)
 
 -- ---- all classes, then the goals
 module _ (bytes work class words cells work' class' words' cells' : List ℕ) (c : Catalog) where
   -- there are no classes
-  pub builds_unbuilt : (x : Refusal) → BuildsClasses bytes work class words cells work' class' words' cells' c (made.Refused x) → Builds bytes work class words cells class' words' c (answers.Refused x)
+  pub builds_unbuilt : (x : Refusal) → BuildsClasses bytes work class words cells work' class' words' cells' c (Err x) → Builds bytes work class words cells class' words' c (Err x)
   builds_unbuilt x B P R Q L e = run-unbuilt L P x (B P R Q L e)
 
   -- they are made
-  pub builds_ended : (s : Building) (r : Counts) (t : Counted) → BuildsClasses bytes work class words cells work' class' words' cells' c (made.Made s r t) → (a : Answer) → EndsIn (lent bytes class' words' cells' work') s r t a
+  pub builds_ended : (s : Building) (r : Counts) (t : Counted) → BuildsClasses bytes work class words cells work' class' words' cells' c (Ok (s, r, t)) → (a : Result (ℕ × ℕ × Figures) Refusal) → EndsIn (lent bytes class' words' cells' work') s r t a
       → Builds bytes work class words cells class' words' c a
-  builds_ended s r t B (answers.Done n m f) N = λ P R Q.
+  builds_ended s r t B (Ok (n, m, f)) N = λ P R Q.
       let D = B.1 P R Q in
       let E = D.ended in
       let W = E.standing in
@@ -139,4 +135,4 @@ module _ (bytes work class words cells work' class' words' cells' : List ℕ) (c
         patterns_fit = omega (arith, N.1, pattern_fits bytes work' class' words' cells' s.catalog s.keying s.layout r s.store E.memo s.fill P D.built W);
         counted = G.2;
       }
-  builds_ended s r t B (answers.Refused x) N = λ P R Q L e. let D = B.1 P R Q in run_untested L P D.built (D.is L e) x (N P D.built D.ended L)
+  builds_ended s r t B (Err x) N = λ P R Q L e. let D = B.1 P R Q in run_untested L P D.built (D.is L e) x (N P D.built D.ended L)

@@ -1,4 +1,6 @@
 -- One goal's test: its result's step, and the instance test of its judgment against that step's class.
+use Rattle.std.specs.Prelude.{Some, None, Ok, Err}
+use Rattle.std.specs.Prelude.{Result as Either}
 use Rattle.std.specs.Prelude.{◌≡◌, refl, true, ℕ, ◌+◌, ◌<◌, eqb, length}
 use Rattle.std.proofs.Common.{sym, ◌∙◌, subst, arith, eq-eqb, ne_eqb}
 use Rattle.std.proofs.Math.Path.{ap}
@@ -15,12 +17,13 @@ use Rattle.definition.specs.Keys.{first_of, keyed as keys_of}
 use Rattle.definition.specs.Classes.{no_class, Built}
 use Rattle.definition.specs.Run.{outcome}
 use Rattle.definition.specs.Goals.{Root, result_of, instance_of, test_goal}
+use Rattle.definition.specs.declared.Refusal.{Refusal}
+use Rattle.definition.specs.declared.Refusal.TheVariants as refusals
 use Rattle.definition.specs.declared.Refusal.TheVariants.{Goal as Unmet, Instance as Unlike}
 use Rattle.theory.specs.Classes.GoalsMet.{result_named}
 use Rattle.base.specs.Outside.{Outside, outside_none}
 use Rattle.pack_tables.specs.Catalog.{records_of}
 use Rattle.pack_tables.specs.declared.catalog.Catalog.{Catalog}
-use Rattle.pack_tables.specs.declared.region.Sought.TheVariants.{At, Nowhere}
 use Rattle.pack_read.specs.Reads.{length-nodes, length_steps, length_goals}
 use Rattle.pack_read.specs.Says.{OfPack}
 use Rattle.pack_read.specs.Held.{OfHeld}
@@ -34,9 +37,6 @@ use Rattle.class_premises.specs.declared.layout.Layout.{Layout}
 use Rattle.term_instance.specs.Held.{value_at, Given, Kept}
 use Rattle.term_instance.specs.Matches.{Matches}
 use Rattle.term_instance.specs.declared.tables.Instance.{Instance}
-use Rattle.term_instance.specs.declared.instance.Matched.TheVariants.{Yes, No}
-use Rattle.class_build.specs.declared.goal.Goal.{Goal as Answer}
-use Rattle.class_build.specs.declared.goal.Goal.TheVariants as answers
 use Rattle.class_build.specs.Values.{given-none, given_match}
 use Rattle.class_build.specs.Results.{result_found, answered-step}
 use Rattle.class_build.specs.Runs.{goal_missed, goal-other, goal-unlike, goal_alike}
@@ -64,24 +64,38 @@ pub record Rooted (work : List ℕ) (l : Layout) (P : Pack) (b : Built) (g : ℕ
   pub place : row ≡ get_or work (l.rows + r.class) 0
   pub given : (j n : ℕ) → value_of j r.values ≡ some n → n < length P.nodes
 
--- the goal passes, the memo of values has those of its root, and the row is that of its class; or it is refused
-abbrev pub TestsOne : (bytes work work' class words : List ℕ) (c : Catalog) (k : Keying) (l : Layout) (t : Instance) (st : Store) (g : ℕ) → Answer → Type 0
-TestsOne bytes work work' class words c k l t st g (answers.Met seen values row) =
+-- a goal's refusal as it is of goal i: one that is not met is refused by its number
+abbrev pub told_of : ℕ → Refusal → Refusal
+told_of i (Unmet n) = Unmet i
+told_of i (Unlike n) = Unlike n
+told_of i (refusals.Form n) = refusals.Form n
+told_of i (refusals.Limit n) = refusals.Limit n
+told_of i (refusals.Step n) = refusals.Step n
+told_of i (refusals.Clash n) = refusals.Clash n
+told_of i (refusals.Circle n) = refusals.Circle n
+told_of i (refusals.Short n) = refusals.Short n
+told_of i refusals.Sorts = refusals.Sorts
+told_of i (refusals.Cut n) = refusals.Cut n
+told_of i (refusals.Ground n) = refusals.Ground n
+
+-- the goal passes, the memo of values has those of its root, and the row is that of its class; or it is refused as the definition has it,
+-- whatever number the goal has there
+abbrev pub TestsOne : (bytes work work' class words : List ℕ) (c : Catalog) (k : Keying) (l : Layout) (t : Instance) (st : Store) (g : ℕ) → Either (Memo × Memo × ℕ) Refusal → Type 0
+TestsOne bytes work work' class words c k l t st g (Ok (seen, values, row)) =
     Kept t seen values work work'
     × OfReady bytes work class words c k l t st (λ P b.
     (r : Root) × ((i : ℕ) (L : Lent) → outcome L (test_goal P b i (goal_of P g)) ≡ fine r) × ((j : ℕ) → value_at work' t values j ≡ value_of j r.values) × Rooted work l P b g r row)
-TestsOne bytes work work' class words c k l t st g answers.Unmet =
-    Outside t.pairs t.end work work' × OfReady bytes work class words c k l t st (λ P b. (i : ℕ) (L : Lent) → outcome L (test_goal P b i (goal_of P g)) ≡ refuse (Unmet i))
-TestsOne bytes work work' class words c k l t st g (answers.Other s) =
-    Outside t.pairs t.end work work' × OfReady bytes work class words c k l t st (λ P b. (i : ℕ) (L : Lent) → outcome L (test_goal P b i (goal_of P g)) ≡ refuse (Unlike s))
+TestsOne bytes work work' class words c k l t st g (Err z) =
+    Outside t.pairs t.end work work'
+    × (told_of g z ≡ z) × OfReady bytes work class words c k l t st (λ P b. (i : ℕ) (L : Lent) → outcome L (test_goal P b i (goal_of P g)) ≡ refuse (told_of i z))
 
 module _ (bytes work class words : List ℕ) (c : Catalog) (k : Keying) (l : Layout) (t : Instance) (st : Store) (g : ℕ) where
   -- there is no such step
-  pub one-unmet : StepOf bytes work c g Nowhere → TestsOne bytes work work class words c k l t st g answers.Unmet
-  one-unmet S = (outside_none t.pairs t.end work, λ P b R. unmet P b (goal_of P g) (S P R.reads R.proper))
+  pub one-unmet : StepOf bytes work c g None → TestsOne bytes work work class words c k l t st g (Err (Unmet g))
+  one-unmet S = (outside_none t.pairs t.end work, refl, λ P b R. unmet P b (goal_of P g) (S P R.reads R.proper))
 
   -- there is one, with a first step of its judgment, that one's conclusion, and the goal's judgment
-  module _ (s : ℕ) (S : StepOf bytes work c g (At s)) where
+  module _ (s : ℕ) (S : StepOf bytes work c g (Some s)) where
     -- it is recorded
     pub answer_recorded : (seen values : Memo) → Testable bytes work class words c k l t st seen values → s < length (records_of work c 4)
     answer_recorded seen values T =
@@ -152,7 +166,7 @@ module _ (bytes work class words : List ℕ) (c : Catalog) (k : Keying) (l : Lay
           }
 
       -- the judgment is an instance
-      pub one-met : g < length (records_of work c 5) → (work' : List ℕ) (seen values : Memo) → Matches bytes work work' words c t st p m (Yes seen values) → TestsOne bytes work work' class words c k l t st g (answers.Met seen values row)
+      pub one-met : g < length (records_of work c 5) → (work' : List ℕ) (seen values : Memo) → Matches bytes work work' words c t st p m (Some (seen, values)) → TestsOne bytes work work' class words c k l t st g (Ok (seen, values, row))
       one-met h work' seen values M = (
         M.0,
         λ P b R.
@@ -167,9 +181,10 @@ module _ (bytes work class words : List ℕ) (c : Catalog) (k : Keying) (l : Lay
       )
 
       -- it is none
-      pub one-other : (work' : List ℕ) → Matches bytes work work' words c t st p m No → TestsOne bytes work work' class words c k l t st g (answers.Other s)
+      pub one-other : (work' : List ℕ) → Matches bytes work work' words c t st p m None → TestsOne bytes work work' class words c k l t st g (Err (Unlike s))
       one-other work' M = (
         M.0,
+        refl,
         λ P b R i L.
             let A = S P R.reads R.proper in
             let r = get_or P.results A.met.result no_result in

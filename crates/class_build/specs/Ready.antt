@@ -1,4 +1,5 @@
 -- What `make_ready` asks and answers: the state before the first class.
+use Rattle.std.specs.Prelude.{Option, Some, None}
 use Rattle.std.specs.Prelude.{◌≡◌, List, [], ℕ, ◌+◌, ◌*◌, ◌≤◌, ◌<◌, length}
 use Rattle.std.proofs.Math.Path.{refl, subst}
 use Rattle.std.proofs.Common.{sym, ap, ◌∙◌, arith}
@@ -38,10 +39,9 @@ use Rattle.class_premises.specs.declared.layout.Layout.{Layout}
 use Rattle.term_lift.specs.Kept.{lifts_on}
 use Rattle.class_premises.specs.Rows.{rows_none}
 use Rattle.class_premises.specs.Standing.{Standing, lifted_of}
+use Rattle.class_build.specs.declared.ready.Opening.{Opening}
 use Rattle.class_build.specs.Places.{keying_of, Roomy, Places}
 use Rattle.class_build.specs.Begin.{Indexable, StoreBegun}
-use Rattle.class_build.specs.declared.ready.Ready.{Ready}
-use Rattle.class_build.specs.declared.ready.Ready.TheVariants as answers
 
 -- what class building and the goals as shown spend of work: 7 words a pattern word, 15 a graph cell, 9 a byte of the pack, and some
 abbrev pub least_room : List ℕ → List ℕ → List ℕ → ℕ
@@ -83,9 +83,10 @@ pub record Shorts (class : List ℕ) (P : Pack) : Type 0 where
   pub is : (L : Lent) → L.class ≡ length class → outcome L (build_classes P) ≡ refuse (refusals.Short 1)
 
 -- what `make_ready` answers
-abbrev pub Readies : List ℕ → List ℕ → List ℕ → List ℕ → List ℕ → List ℕ → List ℕ → Catalog → Ready → Type 0
-Readies bytes work class words cells work' class' c (answers.On k l r st memo) = OfHeld bytes work c (Starts bytes class words cells work' class' c k l r st memo) × Outside 0 (length (records_of work c 4)) class class'
-Readies bytes work class words cells work' class' c answers.Short = OfHeld bytes work c (Shorts class)
+abbrev pub Readies : List ℕ → List ℕ → List ℕ → List ℕ → List ℕ → List ℕ → List ℕ → Catalog → Option Opening → Type 0
+Readies bytes work class words cells work' class' c (Some o) =
+    OfHeld bytes work c (Starts bytes class words cells work' class' c o.keying o.layout o.counts o.store o.memo) × Outside 0 (length (records_of work c 4)) class class'
+Readies bytes work class words cells work' class' c None = OfHeld bytes work c (Shorts class)
 
 -- ---- the definition alone
 -- the steps' words have room
@@ -100,7 +101,7 @@ build_short L P h = outcome_short L 1 (length P.steps) (λ u. make_classes P (ke
 
 module _ (bytes work class words cells : List ℕ) (c : Catalog) (O : Opened bytes work words cells c) where
   -- the class buffer is too short
-  pub ready_short : length class < length (records_of work c 4) → Readies bytes work class words cells work class c answers.Short
+  pub ready_short : length class < length (records_of work c 4) → Readies bytes work class words cells work class c None
   ready_short h P R Q =
       let n = length_steps bytes (records_of work c) P R in
       let less : length class < length P.steps = omega arith in
@@ -166,7 +167,7 @@ module _ (bytes work class words cells : List ℕ) (c : Catalog) (O : Opened byt
       many : l.nodes ≡ length (records_of work₁ c 3)
       many = D.nodes ∙ f ∙ ap length (sym (same-records work work₁ c tables_first O.held.cataloged.fits 3 (omega arith)))
 
-      pub ready_on : Readies bytes work class words cells work₃ class₁ c (answers.On k l r st memo)
+      pub ready_on : Readies bytes work class words cells work₃ class₁ c (Some (record { keying = k; layout = l; counts = r; store = st; memo = memo }))
       unfolding part
       ready_on = (starts, G)
         where

@@ -1,4 +1,5 @@
 -- All goals when all classes are made: what is asked, and what is answered.
+use Rattle.std.specs.Prelude.{Result, Ok, Err}
 use Rattle.std.specs.Prelude.{◌≡◌, refl, Bool, false, List, [], ◌∷◌, map, ℕ, zero, suc, ◌+◌, ◌*◌, ◌≤◌, ◌<◌, length, get_or}
 use Rattle.std.proofs.Common.{sym, ap, ◌∙◌, subst, arith}
 use Rattle.definition.specs.Pack.{Pack}
@@ -8,7 +9,7 @@ use Rattle.definition.specs.Keys.{Keyed, keyed as keys_of}
 use Rattle.definition.specs.Classes.{Class, no_class, mark, Built}
 use Rattle.definition.specs.Run.{outcome}
 use Rattle.definition.specs.Goals.{Root, test_goals}
-use Rattle.definition.specs.declared.Refusal.TheVariants.{Goal as Unmet, Instance as Unlike}
+use Rattle.definition.specs.declared.Refusal.{Refusal}
 use Rattle.base.specs.Outside.{Outside, outside_then, outside_wider}
 use Rattle.base.specs.Part.{part, part_at}
 use Rattle.pack_tables.specs.Catalog.{records_of}
@@ -27,8 +28,6 @@ use Rattle.class_premises.specs.Takes.{count_in}
 use Rattle.class_premises.specs.Standing.{Standing, standing_held, standing_keyed, standing_behind, standing_few}
 use Rattle.term_instance.specs.Held.{Given, Kept, outside_same}
 use Rattle.term_instance.specs.declared.tables.Instance.{Instance}
-use Rattle.class_build.specs.declared.goals_each.Tested.{Tested}
-use Rattle.class_build.specs.declared.goals_each.Tested.TheVariants as answers
 use Rattle.class_build.specs.Testable.{Marked, Ready, Testable, ready_on}
 use Rattle.class_build.specs.EachGoal.{TestsEach}
 use Rattle.theory.specs.Making.Variables.{VariablesBelow}
@@ -67,14 +66,12 @@ OfMade bytes work class words c k l st F =
     (cells : List ℕ) (r : Counts) (memo : Memo) (fill : ℕ) (P : Pack) (b : Built) → Standing bytes work class words cells c k l r st memo fill P b → length b.classes ≡ length (keys_of P).classes → F P b
 
 -- the tests come to something; or to a refusal
-abbrev pub Tests : (bytes work work' class words : List ℕ) (c : Catalog) (k : Keying) (l : Layout) (t : Instance) (st : Store) → Tested → Type 0
-Tests bytes work work' class words c k l t st (answers.Met seen values) =
+abbrev pub Tests : (bytes work work' class words : List ℕ) (c : Catalog) (k : Keying) (l : Layout) (t : Instance) (st : Store) → Result (Memo × Memo) Refusal → Type 0
+Tests bytes work work' class words c k l t st (Ok (seen, values)) =
     Kept t seen values work work'
     × OfMade bytes work class words c k l st (λ P b. (rs : List Root) × ((L : Lent) → outcome L (test_goals P b 0 P.goals) ≡ fine rs))
-Tests bytes work work' class words c k l t st (answers.Unmet i) =
-    Outside t.pairs t.end work work' × OfMade bytes work class words c k l st (λ P b. (L : Lent) → outcome L (test_goals P b 0 P.goals) ≡ refuse (Unmet i))
-Tests bytes work work' class words c k l t st (answers.Other s) =
-    Outside t.pairs t.end work work' × OfMade bytes work class words c k l st (λ P b. (L : Lent) → outcome L (test_goals P b 0 P.goals) ≡ refuse (Unlike s))
+Tests bytes work work' class words c k l t st (Err z) =
+    Outside t.pairs t.end work work' × OfMade bytes work class words c k l st (λ P b. (L : Lent) → outcome L (test_goals P b 0 P.goals) ≡ refuse z)
 
 -- ---- the start
 -- a mark of some as a word
@@ -198,10 +195,9 @@ module _ (bytes work class words : List ℕ) (c : Catalog) (k : Keying) (l : Lay
       }
 
       -- what they come to
-      pub begun_tests : (work' : List ℕ) (r : Tested) → TestsEach bytes next work' class words c k l t st r → Tests bytes work work' class words c k l t st r
-      begun_tests work' (answers.Met seen values) N = (
+      pub begun_tests : (work' : List ℕ) (r : Result (Memo × Memo) Refusal) → TestsEach bytes next work' class words c k l t st r → Tests bytes work work' class words c k l t st r
+      begun_tests work' (Ok (seen, values)) N = (
         record { outside = outside_then t.pairs t.end work next work' begun_kept.outside N.0.outside; seen-kept = N.0.seen-kept; values-kept = N.0.values-kept },
         λ cells r memo fill P b S a. N.1 P b (begun_read cells r memo fill P b S a),
       )
-      begun_tests work' (answers.Unmet i) N = (outside_then t.pairs t.end work next work' begun_kept.outside N.0, λ cells r memo fill P b S a. N.1 P b (begun_read cells r memo fill P b S a))
-      begun_tests work' (answers.Other s) N = (outside_then t.pairs t.end work next work' begun_kept.outside N.0, λ cells r memo fill P b S a. N.1 P b (begun_read cells r memo fill P b S a))
+      begun_tests work' (Err z) N = (outside_then t.pairs t.end work next work' begun_kept.outside N.0, λ cells r memo fill P b S a. N.1 P b (begun_read cells r memo fill P b S a))

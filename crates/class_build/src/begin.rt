@@ -10,14 +10,8 @@ pub fn begin_store(work: &mut [u32], words: &[u32], l: Layout) -> Store
     requires { Indexable work.old words.now l }
     ensures { StoreBegun work.old work.new words.now l result }
 {
-    let lifted = Lifted {
-        at: l.lifted,
-        nodes: l.nodes,
-        end: l.copied,
-    };
     let from = l.lifted + Lifted::NODE * l.nodes;
-    let to = l.copied;
-    let st = Store::new(&mut work[from..to], words);
-    lifted.clear(work);
+    let st = Store::new(&mut work[from..l.copied], words);
+    l.lifting().clear(work);
     st
 }

@@ -19,9 +19,9 @@ pub fn instance_tables(cells: &[u32], l: Layout, st: Store) -> Instance
     let values = seen + Memo::ENTRY * st.len;
     Instance {
         index: l.lifted + Lifted::NODE * l.nodes,
-        pairs: pairs,
-        seen: seen,
-        values: values,
+        pairs,
+        seen,
+        values,
         end: values + Memo::ENTRY * (cells.len() + Limit::ARITY),
     }
 }

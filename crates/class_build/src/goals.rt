@@ -2,15 +2,17 @@
 ghost use Rattle.class_build.specs.Tests.{Made, Tests};
 
 use crate::goal::Testing;
-use crate::goals_each::{Tested, test_each};
+use crate::goals_each::test_each;
 use class_keys::classes::Keying;
 use class_premises::layout::Layout;
+use definition::Refusal;
+use memo::memo::Memo;
 use memo::part::begin;
 use pack_tables::catalog::Catalog;
 use store::nodes::Store;
 use term_instance::tables::Instance;
 
-// The goals are tested in ascending order; the words of `t`'s tables may hold anything before.
+// The goals are tested in ascending order, which gives the memos as they are then; the words of `t`'s tables may hold anything before.
 pub fn test_goals(
     pack: &[u8],
     work: &mut [u32],
@@ -21,19 +23,16 @@ pub fn test_goals(
     l: Layout,
     t: Instance,
     st: Store,
-) -> Tested
+) -> Result<(Memo, Memo), Refusal>
     requires { Made pack.now work.old class.now words.now c k l t st }
     ensures { Tests pack.now work.old work.new class.now words.now c k l t st result }
 {
-    let a = t.seen;
-    let b = t.values;
-    let e = t.end;
-    let seen = begin(work, a, b);
-    let values = begin(work, b, e);
+    let seen = begin(work, t.seen, t.values);
+    let values = begin(work, t.values, t.end);
     let at = Testing {
         tables: t,
-        seen: seen,
-        values: values,
+        seen,
+        values,
     };
     test_each(pack, work, class, words, c, k, l, st, at)
 }

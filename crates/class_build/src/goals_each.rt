@@ -2,23 +2,15 @@
 ghost use Rattle.class_build.specs.Testable.{Testable};
 ghost use Rattle.class_build.specs.EachGoal.{TestsEach};
 
-use crate::goal::{Goal, Testing, test_goal};
+use crate::goal::{Testing, test_goal};
 use class_keys::classes::Keying;
 use class_premises::layout::Layout;
+use definition::Refusal;
 use memo::memo::Memo;
 use pack_tables::catalog::Catalog;
 use store::nodes::Store;
 
-// All goals are met, with the memos as they are then; or goal i has no result, or one with another judgment; or the judgment of the
-// result's step s is no instance of its class's conclusion.
-#[derive(Clone, Copy)]
-pub enum Tested {
-    Met(Memo, Memo),
-    Unmet(usize),
-    Other(usize),
-}
-
-// The goals are tested: the first that is not met is the answer.
+// The goals are tested, which gives the memos as they are then: the first goal that is not met is refused.
 pub fn test_each(
     pack: &[u8],
     work: &mut [u32],
@@ -29,7 +21,7 @@ pub fn test_each(
     l: Layout,
     st: Store,
     t: Testing,
-) -> Tested
+) -> Result<(Memo, Memo), Refusal>
     requires { Testable pack.now work.old class.now words.now c k l t.tables st t.seen t.values }
     ensures { TestsEach pack.now work.old work.new class.now words.now c k l t.tables st result }
 {
@@ -37,26 +29,13 @@ pub fn test_each(
     let tables = t.tables;
     let mut seen = t.seen;
     let mut values = t.values;
-    let mut g: usize = 0;
-    while g < goals {
+    for g in 0..goals {
         let at = Testing {
-            tables: tables,
-            seen: seen,
-            values: values,
+            tables,
+            seen,
+            values,
         };
-        match test_goal(pack, work, class, words, c, k, l, st, at, g) {
-            Goal::Met(s, v, _) => {
-                seen = s;
-                values = v;
-            }
-            Goal::Unmet => {
-                return Tested::Unmet(g);
-            }
-            Goal::Other(s) => {
-                return Tested::Other(s);
-            }
-        }
-        g += 1;
+        (seen, values, _) = test_goal(pack, work, class, words, c, k, l, st, at, g)?;
     }
-    Tested::Met(seen, values)
+    Ok((seen, values))
 }

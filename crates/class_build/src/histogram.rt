@@ -21,32 +21,24 @@ fn add_class(s: Slots, n: usize) -> Slots
     if n <= 1 {
         return Slots {
             single: s.single + 1,
-            few: s.few,
-            tens: s.tens,
-            hundreds: s.hundreds,
+            ..s
         };
     }
     if n <= 9 {
         return Slots {
-            single: s.single,
             few: s.few + 1,
-            tens: s.tens,
-            hundreds: s.hundreds,
+            ..s
         };
     }
     if n <= 99 {
         return Slots {
-            single: s.single,
-            few: s.few,
             tens: s.tens + 1,
-            hundreds: s.hundreds,
+            ..s
         };
     }
     Slots {
-        single: s.single,
-        few: s.few,
-        tens: s.tens,
         hundreds: s.hundreds + 1,
+        ..s
     }
 }
 
@@ -61,10 +53,8 @@ pub fn histogram(work: &[u32], k: Keying, n: usize) -> Slots
         tens: 0,
         hundreds: 0,
     };
-    let mut i: usize = 0;
-    while i < n {
+    for i in 0..n {
         s = add_class(s, class_count(work, k, i));
-        i += 1;
     }
     s
 }

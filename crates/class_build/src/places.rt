@@ -39,13 +39,13 @@ pub fn layout(work: &[u32], words: &[u32], cells: &[u32], k: Keying, nodes: usiz
     let variables = walk + 2 * room;
     let graph = variables + (n + Limit::ARITY);
     Layout {
-        rows: rows,
-        lifted: lifted,
-        nodes: nodes,
-        copied: copied,
-        walk: walk,
-        variables: variables,
-        graph: graph,
+        rows,
+        lifted,
+        nodes,
+        copied,
+        walk,
+        variables,
+        graph,
         end: graph + copies_end(n),
     }
 }

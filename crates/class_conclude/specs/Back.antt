@@ -1,4 +1,5 @@
 -- The instance and the copies' variables read back, one behind the other.
+use Rattle.std.specs.Prelude.{Option, Some, None}
 use Rattle.std.specs.Prelude.{◌≡◌, true, false, List, [], ◌∷◌, ℕ, suc, ◌+◌, ◌≤◌, ◌<◌, length}
 use Rattle.std.proofs.Common.{sym, ap, ◌∙◌, subst, arith}
 use Rattle.definition.specs.Pack.{Node, Pack}
@@ -25,12 +26,8 @@ use Rattle.class_premises.specs.declared.layout.Layout.{Layout}
 use Rattle.term_readback.specs.Words.{Ready, Framed}
 use Rattle.term_readback.specs.Moved.{framed_then, holding_fewer}
 use Rattle.term_readback.specs.Stacks.{Answers}
-use Rattle.term_readback.specs.declared.root.Resolved.TheVariants as read
 use Rattle.class_premises.specs.Standing.{lifted_of}
-use Rattle.class_conclude.specs.declared.entries.Entries.TheVariants as entries
 use Rattle.class_conclude.specs.declared.top.Wanted.{Wanted}
-use Rattle.class_conclude.specs.declared.top.Back.{Back}
-use Rattle.class_conclude.specs.declared.top.Back.TheVariants.{Read, Short}
 use Rattle.class_conclude.specs.Entries.{table_of, Holds, read_flex, renamed, AllAsked, AllReads}
 use Rattle.class_conclude.specs.Top.{Topped, Topping, Prepares, prepared, prepared_framed}
 
@@ -48,17 +45,17 @@ pub record BackRead (bytes work words cells : List ℕ) (c : Catalog) (l : Layou
   pub renamings : k ≡ count_of (renamed state.state.store) patterns
 
 -- what `read_back` answers
-abbrev pub BackReads : List ℕ → List ℕ → List ℕ → List ℕ → List ℕ → List ℕ → Catalog → Layout → Store → ℕ → Counts → ℕ → ℕ → Back → Type 0
-BackReads bytes work words work' words' cells c l st before g x copies (Read st' p n k) =
+abbrev pub BackReads : List ℕ → List ℕ → List ℕ → List ℕ → List ℕ → List ℕ → Catalog → Layout → Store → ℕ → Counts → ℕ → ℕ → Option (Store × Pattern × ℕ × ℕ) → Type 0
+BackReads bytes work words work' words' cells c l st before g x copies (Some (st', p, n, k)) =
     Framed cells work work' (lifted_of l) (table_of l)
     × (words' ≡ written (nodes words' st') words)
     × ((P : Pack) (h : Graph) (vs : List Bound) → Topped bytes work words cells c l st before g x copies P h vs → BackRead bytes work' words' cells c l st' g p.0 n k P h vs (nodes words st) x (copies_in work cells l copies))
-BackReads bytes work words work' words' cells c l st before g x copies Short =
+BackReads bytes work words work' words' cells c l st before g x copies None =
     (P : Pack) (h : Graph) (vs : List Bound) → Topped bytes work words cells c l st before g x copies P h vs
     → length words < length (pattern_words (read_flex P h vs (copies_in work cells l copies) (read_top P h vs x (nodes words st)).state).state.store)
 
 -- of what is wanted
-abbrev pub BackReadsAt : (bytes work words work' words' cells : List ℕ) (c : Catalog) (l : Layout) (st : Store) (g : Counts) (w : Wanted) → Back → Type 0
+abbrev pub BackReadsAt : (bytes work words work' words' cells : List ℕ) (c : Catalog) (l : Layout) (st : Store) (g : Counts) (w : Wanted) → Option (Store × Pattern × ℕ × ℕ) → Type 0
 BackReadsAt bytes work words work' words' cells c l st g w r = BackReads bytes work words work' words' cells c l st w.before g w.node.0 w.copies r
 
 module _ (bytes work words cells : List ℕ) (c : Catalog) (l : Layout) (st : Store) (before : ℕ) (g : Counts) (x copies : ℕ) (K : Topping bytes work words cells c l st before g x copies) (work₁ : List ℕ) (R : Prepares work work₁ cells l before g) where
@@ -79,11 +76,11 @@ module _ (bytes work words cells : List ℕ) (c : Catalog) (l : Layout) (st : St
   grows_on P h vs st₂ xs = words-grow st₂.store (read_flex P h vs xs st₂).state.store (resolve_keeps P h vs false (suc (length h)) xs st₂).0.grows
 
   -- there is no room for the node
-  pub back_full : (work₂ words₂ : List ℕ) → Answers bytes work₁ words work₂ words₂ cells c (lifted_of l) (table_of l) st g 0 true x read.Short → BackReads bytes work words work₂ words₂ cells c l st before g x copies Short
+  pub back_full : (work₂ words₂ : List ℕ) → Answers bytes work₁ words work₂ words₂ cells c (lifted_of l) (table_of l) st g 0 true x None → BackReads bytes work words work₂ words₂ cells c l st before g x copies None
   back_full work₂ words₂ A P h vs T = omega (arith, A.1 P h vs (resolving (numbered_as [] (nodes words st)) []) (start P h vs T), grows_on P h vs (read_top P h vs x (nodes words st)).state (copies_in work cells l copies))
 
   -- the node was read
-  module _ (work₂ words₂ : List ℕ) (p : Pattern) (st₂ : Store) (n₂ : ℕ) (A : Answers bytes work₁ words work₂ words₂ cells c (lifted_of l) (table_of l) st g 0 true x (read.Read p st₂ n₂)) where
+  module _ (work₂ words₂ : List ℕ) (p : Pattern) (st₂ : Store) (n₂ : ℕ) (A : Answers bytes work₁ words work₂ words₂ cells c (lifted_of l) (table_of l) st g 0 true x (Some (p, st₂, n₂))) where
     -- what is held then
     after : (P : Pack) (h : Graph) (vs : List Bound) → Topped bytes work words cells c l st before g x copies P h vs
         → (s : Resolving) × Holds bytes work₂ words₂ cells c l st₂ g n₂ true P h vs s × (read_top P h vs x (nodes words st) ≡ resolved_as (p.0 ∷ []) s.state)
@@ -121,7 +118,7 @@ module _ (bytes work words cells : List ℕ) (c : Catalog) (l : Layout) (st : St
         ∙ ap (λ (r : Resolved). read_flex P h vs (copies_in work₂ cells l copies) r.state) (after P h vs T).2
 
     -- there is no room for them
-    pub back_short : (work' words' : List ℕ) → length words₂ ≡ length words → AllReads bytes work₂ words₂ work' words' cells c l st₂ g n₂ copies entries.Short → BackReads bytes work words work' words' cells c l st before g x copies Short
+    pub back_short : (work' words' : List ℕ) → length words₂ ≡ length words → AllReads bytes work₂ words₂ work' words' cells c l st₂ g n₂ copies None → BackReads bytes work words work' words' cells c l st before g x copies None
     back_short work' words' long E P h vs T = omega (arith, E P h vs (after P h vs T).0 (fewer P h vs T), ap (λ (r : Resolved). length (pattern_words r.state.store)) (same_read P h vs T), long)
 
     -- the store has grown by the node
@@ -135,7 +132,7 @@ module _ (bytes work words cells : List ℕ) (c : Catalog) (l : Layout) (st : St
         (subst (λ (r : Resolved). Grows (nodes words st) r.state.store) a.2 (resolve_keeps P h vs true (suc (length h)) (x ∷ []) (numbered_as [] (nodes words st))).0.grows)
 
     -- they were read
-    pub back_read : (work' words' : List ℕ) (st' : Store) (n k : ℕ) → AllReads bytes work₂ words₂ work' words' cells c l st₂ g n₂ copies (entries.Read st' n k) → BackReads bytes work words work' words' cells c l st before g x copies (Read st' p n k)
+    pub back_read : (work' words' : List ℕ) (st' : Store) (n k : ℕ) → AllReads bytes work₂ words₂ work' words' cells c l st₂ g n₂ copies (Some (st', n, k)) → BackReads bytes work words work' words' cells c l st before g x copies (Some (st', p, n, k))
     back_read work' words' st' n k E =
         let grown : Grows (nodes words₂ st₂) (nodes words' st') =
         let P = K.pack in

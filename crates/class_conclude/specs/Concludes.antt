@@ -1,7 +1,8 @@
 -- A rule's conclusion behind its premises, as a whole: its instance put into the graph, then read back with the copies' variables.
+use Rattle.std.specs.Prelude.{Some, None, Result, Ok, Err, ◌⊎◌}
 use Rattle.std.specs.Prelude.{◌≡◌, true, ℕ, suc, ◌+◌, ◌*◌, ◌-◌, ◌≤◌, ◌<◌}
 use Rattle.std.proofs.Math.Path.{refl, sym, ap, subst}
-use Rattle.std.proofs.Common.{ap₂, ◌∙◌, arith}
+use Rattle.std.proofs.Common.{ap₂, ◌∙◌, arith, inl, inr}
 use Rattle.std.proofs.Math.Bool.{false}
 use mathlib.Core.List.{List, [], ◌∷◌}
 use Rattle.std.proofs.Math.Option.{none}
@@ -17,6 +18,8 @@ use Rattle.definition.specs.Store.{pattern_words}
 use Rattle.definition.specs.Graph.{Graph, circular, up_to, Grown, cells as cells_of}
 use Rattle.definition.specs.Analysis.{Numbered, Resolved, instantiate}
 use Rattle.definition.specs.Classes.{count_of, is_fixed}
+use Rattle.definition.specs.declared.Refusal.{Refusal}
+use Rattle.definition.specs.declared.Refusal.TheVariants.{Short}
 use Rattle.theory.specs.Unification.Circle.{length_up_to}
 use Rattle.theory.specs.Copies.Variables.{up_to_below}
 use Rattle.theory.specs.Patterns.Entries.{resolve_keeps}
@@ -38,7 +41,6 @@ use Rattle.pack_read.specs.Clause.{Spelt, SpeltAll}
 use Rattle.term_lift.specs.Lifts.{Lifts}
 use Rattle.term_lift.specs.Nodes.{laid_same}
 use Rattle.graph.specs.declared.graph.Graph.{Graph as Counts}
-use Rattle.graph.specs.declared.graph.Pushed.TheVariants.{At, Short as Full}
 use Rattle.graph.specs.Cells.{rows_end, Shows, nodes_few}
 use Rattle.graph.specs.Pushes.{cells_shown}
 use Rattle.graph.specs.Inner.{many-nodes}
@@ -57,8 +59,6 @@ use Rattle.theory.specs.Making.ReadBack.{resolve_patterns}
 use Rattle.theory.specs.Making.Values.{Grounded, grounded_value}
 use Rattle.class_conclude.specs.declared.conclude.Ending.{Ending}
 use Rattle.class_conclude.specs.declared.conclude.Concluded.{Concluded}
-use Rattle.class_conclude.specs.declared.conclude.Conclusion.{Conclusion}
-use Rattle.class_conclude.specs.declared.conclude.Conclusion.TheVariants.{Read, ShortGraph, ShortPatterns}
 use Rattle.class_conclude.specs.Entries.{table_of, read_flex, renamed}
 use Rattle.class_conclude.specs.Top.{Topped, Topping}
 use Rattle.class_conclude.specs.Back.{read_top}
@@ -130,17 +130,24 @@ pub record Done (bytes work' words' cells cells' : List ℕ) (c : Catalog) (l : 
 abbrev pub Whatever : List ℕ → List ℕ → List ℕ → List ℕ → Catalog → Layout → Store → Counts → List ℕ → Ending → (Pack → Term → Graph → List Bound → Type 0) → Type 0
 Whatever bytes work words cells c l st g env q F = (P : Pack) (t : Term) (h : Graph) (vs : List Bound) → Here bytes work words cells c l st g env q P t h vs → F P t h vs
 
--- what `conclude` answers
-abbrev pub Concludes : List ℕ → List ℕ → List ℕ → List ℕ → List ℕ → List ℕ → List ℕ → Catalog → Layout → Store → Counts → List ℕ → Ending → Conclusion → Type 0
-Concludes bytes work words cells work' words' cells' c l st g env q (Read g' st' r) =
+-- the cells have no room for the conclusion
+abbrev pub GraphShort : List ℕ → List ℕ → List ℕ → List ℕ → Catalog → Layout → Store → Counts → List ℕ → Ending → Type 0
+GraphShort bytes work words cells c l st g env q = Whatever bytes work words cells c l st g env q (λ P t h vs. length cells < cells_of (top_of t env h).graph)
+
+-- they have it, but the words have none for its patterns
+abbrev pub PatternsShort : List ℕ → List ℕ → List ℕ → List ℕ → Catalog → Layout → Store → Counts → List ℕ → Ending → Type 0
+PatternsShort bytes work words cells c l st g env q =
+    Whatever bytes work words cells c l st g env q (λ P t h vs.
+    (cells_of (top_of t env h).graph ≤ length cells) × (length words < length (pattern_words (entries_of P t env h vs (nodes words st) (copies_in work cells l q.copies)).state.store)))
+
+-- what `conclude` answers: the buffer that is short, by its number, if it is refused
+abbrev pub Concludes : List ℕ → List ℕ → List ℕ → List ℕ → List ℕ → List ℕ → List ℕ → Catalog → Layout → Store → Counts → List ℕ → Ending → Result (Counts × Store × Concluded) Refusal → Type 0
+Concludes bytes work words cells work' words' cells' c l st g env q (Ok (g', st', r)) =
     Framed cells work work' (lifted_of l) (table_of l)
     × (words' ≡ written (nodes words' st') words)
     × Whatever bytes work words cells c l st g env q (λ P t h vs. Done bytes work' words' cells cells' c l st' g' r P t env h vs (nodes words st) (copies_in work cells l q.copies))
-Concludes bytes work words cells work' words' cells' c l st g env q ShortGraph =
-    Whatever bytes work words cells c l st g env q (λ P t h vs. length cells < cells_of (top_of t env h).graph)
-Concludes bytes work words cells work' words' cells' c l st g env q ShortPatterns =
-    Whatever bytes work words cells c l st g env q (λ P t h vs.
-    (cells_of (top_of t env h).graph ≤ length cells) × (length words < length (pattern_words (entries_of P t env h vs (nodes words st) (copies_in work cells l q.copies)).state.store)))
+Concludes bytes work words cells work' words' cells' c l st g env q (Err z) =
+    ((z ≡ Short 3) × GraphShort bytes work words cells c l st g env q) ⊎ ((z ≡ Short 2) × PatternsShort bytes work words cells c l st g env q)
 
 -- ---- the term
 -- alone it is spelt as it is
@@ -211,11 +218,11 @@ module _ (bytes work words cells : List ℕ) (c : Catalog) (l : Layout) (st : St
           }
 
       -- there is no room for it
-      pub conclude_full : (work₁ words₁ cells₁ : List ℕ) → Instantiates bytes work work₁ cells cells₁ c (place_of l q.rule q.vars) g env q.from to Full → Concludes bytes work words cells work₁ words₁ cells₁ c l st g env q ShortGraph
-      conclude_full work₁ words₁ cells₁ I P t h vs H = I P H.reads H.proper t (spells_to P t h vs H) h H.shows H.inner (env-below P t h vs H)
+      pub conclude_full : (work₁ words₁ cells₁ : List ℕ) → Instantiates bytes work work₁ cells cells₁ c (place_of l q.rule q.vars) g env q.from to None → Concludes bytes work words cells work₁ words₁ cells₁ c l st g env q (Err (Short 3))
+      conclude_full work₁ words₁ cells₁ I = inl (refl, λ P t h vs H. I P H.reads H.proper t (spells_to P t h vs H) h H.shows H.inner (env-below P t h vs H))
 
       -- it is there
-      module _ (x : Id) (g₁ : Counts) (work₁ cells₁ : List ℕ) (I : Instantiates bytes work work₁ cells cells₁ c (place_of l q.rule q.vars) g env q.from to (At x g₁)) (long : length cells₁ ≡ length cells) where
+      module _ (x : Id) (g₁ : Counts) (work₁ cells₁ : List ℕ) (I : Instantiates bytes work work₁ cells cells₁ c (place_of l q.rule q.vars) g env q.from to (Some (x, g₁))) (long : length cells₁ ≡ length cells) where
         -- only rows were written
         outside : Outside l.graph (l.graph + rows_end cells) work work₁
         outside = I.0
@@ -395,15 +402,17 @@ module _ (bytes work words cells : List ℕ) (c : Catalog) (l : Layout) (st : St
               }
 
         -- either way
-        pub concludes : (work' words' : List ℕ) (r : Conclusion) → TopReads bytes work₁ words work' words' cells₁ c l st g.nodes g₁ x.0 q.copies r → Concludes bytes work words cells work' words' cells₁ c l st g env q r
-        concludes work' words' (Read g' st' r) R = (
+        pub concludes : (work' words' : List ℕ) (r : Result (Counts × Store × Concluded) Refusal) → TopReads bytes work₁ words work' words' cells₁ c l st g.nodes g₁ x.0 q.copies r → Concludes bytes work words cells work' words' cells₁ c l st g env q r
+        concludes work' words' (Ok (g', st', r)) R = (
           framed work' R.0,
           R.1,
           λ P t h vs H. subst (λ (k : Counts). Done bytes work' words' cells cells₁ c l st' k r P t env h vs (nodes words st) (copies_in work cells l q.copies)) (sym R.2) (concluded work' words' st' r P t h vs H (R.3 P (instantiate t env h).graph vs (topped P t h vs H))),
         )
-        concludes work' words' ShortGraph R = absurd R
-        concludes work' words' ShortPatterns R = λ P t h vs H. (
-          fits P t h vs H,
-          subst (λ (z : Resolved). length words < length (pattern_words z.state.store)) (same_read P t h vs H (λ y xs. read_flex P (instantiate t env h).graph vs xs (read_top P (instantiate t env h).graph vs y (nodes words st)).state))
-              (R P (instantiate t env h).graph vs (topped P t h vs H)),
+        concludes work' words' (Err z) R = inr (
+          R.0,
+          λ P t h vs H. (
+            fits P t h vs H,
+            subst (λ (z : Resolved). length words < length (pattern_words z.state.store)) (same_read P t h vs H (λ y xs. read_flex P (instantiate t env h).graph vs xs (read_top P (instantiate t env h).graph vs y (nodes words st)).state))
+                (R.1 P (instantiate t env h).graph vs (topped P t h vs H)),
+          ),
         )

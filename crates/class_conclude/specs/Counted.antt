@@ -1,4 +1,5 @@
 -- What was read back, with the fixed variables counted: the numbered ones are nodes of the graph.
+use Rattle.std.specs.Prelude.{Some, Result, Ok, Err}
 use Rattle.std.specs.Prelude.{◌≡◌, refl, Bool, List, [], ◌∷◌, eqb, length}
 use Rattle.std.proofs.Math.Path.{sym, ap}
 use Rattle.std.proofs.Common.{◌∙◌, arith, eq-eqb}
@@ -34,10 +35,9 @@ use Rattle.theory.specs.Making.Resolves.{resolve-length}
 use Rattle.theory.specs.Making.Numbers.{number_any}
 use Rattle.class_conclude.specs.FixedMarks.{numbers_in}
 use Rattle.class_conclude.specs.FixedWhole.{Numbered as Marked, NumbersIn, CountsFixed}
-use Rattle.class_conclude.specs.declared.top.Back.TheVariants as back
 use Rattle.class_conclude.specs.declared.conclude.Concluded.{Concluded}
-use Rattle.class_conclude.specs.declared.conclude.Conclusion.{Conclusion}
-use Rattle.class_conclude.specs.declared.conclude.Conclusion.TheVariants.{Read, ShortGraph, ShortPatterns}
+use Rattle.definition.specs.declared.Refusal.{Refusal}
+use Rattle.definition.specs.declared.Refusal.TheVariants.{Short}
 use Rattle.class_conclude.specs.Entries.{table_of, Holds, read_flex, renamed}
 use Rattle.class_conclude.specs.declared.top.Wanted.{Wanted}
 use Rattle.class_conclude.specs.Top.{Topped, Topping}
@@ -120,23 +120,23 @@ pub record TopRead (bytes work words cells : List ℕ) (c : Catalog) (l : Layout
   pub fixed : r.fixed ≡ count_of (is_fixed h vs (read_flex P h vs xs (read_top P h vs x s).state).state.numbering) (up_to (length h))
 
 -- what `read_top` answers
-abbrev pub TopReads : List ℕ → List ℕ → List ℕ → List ℕ → List ℕ → List ℕ → Catalog → Layout → Store → ℕ → Counts → ℕ → ℕ → Conclusion → Type 0
-TopReads bytes work words work' words' cells c l st before g x copies (Read g' st' r) =
+abbrev pub TopReads : List ℕ → List ℕ → List ℕ → List ℕ → List ℕ → List ℕ → Catalog → Layout → Store → ℕ → Counts → ℕ → ℕ → Result (Counts × Store × Concluded) Refusal → Type 0
+TopReads bytes work words work' words' cells c l st before g x copies (Ok (g', st', r)) =
     Framed cells work work' (lifted_of l) (table_of l)
     × (words' ≡ written (nodes words' st') words)
     × (g' ≡ g)
     × ((P : Pack) (h : Graph) (vs : List Bound) → Topped bytes work words cells c l st before g x copies P h vs → TopRead bytes work' words' cells c l st' g r P h vs (nodes words st) x (copies_in work cells l copies))
-TopReads bytes work words work' words' cells c l st before g x copies ShortGraph = ⊥
-TopReads bytes work words work' words' cells c l st before g x copies ShortPatterns =
-    (P : Pack) (h : Graph) (vs : List Bound) → Topped bytes work words cells c l st before g x copies P h vs
-    → length words < length (pattern_words (read_flex P h vs (copies_in work cells l copies) (read_top P h vs x (nodes words st)).state).state.store)
+TopReads bytes work words work' words' cells c l st before g x copies (Err z) =
+    (z ≡ Short 2)
+    × ((P : Pack) (h : Graph) (vs : List Bound) → Topped bytes work words cells c l st before g x copies P h vs
+    → length words < length (pattern_words (read_flex P h vs (copies_in work cells l copies) (read_top P h vs x (nodes words st)).state).state.store))
 
 -- of what is wanted
-abbrev pub TopReadsAt : (bytes work words work' words' cells : List ℕ) (c : Catalog) (l : Layout) (st : Store) (g : Counts) (w : Wanted) → Conclusion → Type 0
+abbrev pub TopReadsAt : (bytes work words work' words' cells : List ℕ) (c : Catalog) (l : Layout) (st : Store) (g : Counts) (w : Wanted) → Result (Counts × Store × Concluded) Refusal → Type 0
 TopReadsAt bytes work words work' words' cells c l st g w r = TopReads bytes work words work' words' cells c l st w.before g w.node.0 w.copies r
 
 module _ (bytes work words cells : List ℕ) (c : Catalog) (l : Layout) (st : Store) (before : ℕ) (g : Counts) (x copies : ℕ) (K : Topping bytes work words cells c l st before g x copies) (work₁ words₁ : List ℕ) (p : Pattern) (st₁ : Store) (n k : ℕ)
-    (B : BackReads bytes work words work₁ words₁ cells c l st before g x copies (back.Read st₁ p n k)) where
+    (B : BackReads bytes work words work₁ words₁ cells c l st before g x copies (Some (st₁, p, n, k))) where
   -- what is held
   held : (P : Pack) (h : Graph) (vs : List Bound) → Topped bytes work words cells c l st before g x copies P h vs → BackRead bytes work₁ words₁ cells c l st₁ g p.0 n k P h vs (nodes words st) x (copies_in work cells l copies)
   held P h vs T = B.2 P h vs T
@@ -149,7 +149,7 @@ module _ (bytes work words cells : List ℕ) (c : Catalog) (l : Layout) (st : St
 
   -- they were
   pub counted : (work' : List ℕ) (f : ℕ) → CountsFixed work₁ work' cells (table_of l) g n f
-      → TopReads bytes work words work' words₁ cells c l st before g x copies (Read g st₁ (record { pattern = p; numbered = n; entries = copies; renamings = k; fixed = f }))
+      → TopReads bytes work words work' words₁ cells c l st before g x copies (Ok (g, st₁, record { pattern = p; numbered = n; entries = copies; renamings = k; fixed = f }))
   counted work' f F =
       let b₀ = held K.pack K.graph K.values K.topped in (
         framed_then cells work work₁ work' (lifted_of l) (table_of l) B.0 (framed_moves bytes work₁ words₁ cells c (lifted_of l) (table_of l) st₁ g work' F.0 K.pack K.graph K.values b₀.holding.lies),

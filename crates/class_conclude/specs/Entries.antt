@@ -1,4 +1,5 @@
 -- The copies' variables read back one by one: what was read of the first gives the next.
+use Rattle.std.specs.Prelude.{Option, Some, None}
 use Rattle.std.specs.Prelude.{◌≡◌, refl, Bool, true, false, List, [], ◌∷◌, ◌++◌, ℕ, zero, suc, ◌+◌, ◌-◌, ◌≤◌, ◌<◌, length, get_or}
 use Rattle.std.proofs.Common.{sym, ap, ◌∙◌, subst, arith, eq-eqb, ne_eqb}
 use Rattle.definition.specs.Test.{is, see}
@@ -30,12 +31,9 @@ use Rattle.term_readback.specs.Moved.{framed_none, framed_then}
 use Rattle.term_lift.specs.Kept.{Indexed}
 use Rattle.term_readback.specs.Stacks.{Answers}
 use Rattle.term_readback.specs.declared.table.Table.{Table}
-use Rattle.term_readback.specs.declared.root.Resolved.TheVariants as read
 use Rattle.class_premises.specs.Standing.{lifted_of}
 use Rattle.theory.specs.Making.Resolves.{resolve_nil, resolve-append, resolve_snoc}
 use Rattle.theory.specs.Making.Numbers.{count_snoc}
-use Rattle.class_conclude.specs.declared.entries.Entries.{Entries}
-use Rattle.class_conclude.specs.declared.entries.Entries.TheVariants.{Read, Short}
 
 -- where reading back has the graph's table
 abbrev pub table_of : Layout → Table
@@ -82,13 +80,13 @@ pub record OneRead (bytes work words cells : List ℕ) (c : Catalog) (l : Layout
   pub renaming : k ≡ mark (renamed state.state.store pattern)
 
 -- what `read_entry` answers
-abbrev pub OneReads : List ℕ → List ℕ → List ℕ → List ℕ → List ℕ → List ℕ → Catalog → Layout → Store → Counts → ℕ → ℕ → Entries → Type 0
-OneReads bytes work words work' words' cells c l st g n i (Read st' n' k) =
+abbrev pub OneReads : List ℕ → List ℕ → List ℕ → List ℕ → List ℕ → List ℕ → Catalog → Layout → Store → Counts → ℕ → ℕ → Option (Store × ℕ × ℕ) → Type 0
+OneReads bytes work words work' words' cells c l st g n i (Some (st', n', k)) =
     Framed cells work work' (lifted_of l) (table_of l)
     × (words' ≡ written (nodes words' st') words)
     × (k ≤ 1)
     × ((P : Pack) (h : Graph) (vs : List Bound) (s : Resolving) → Holds bytes work words cells c l st g n false P h vs s → OneRead bytes work' words' cells c l st' g n' k P h vs s (copy_at work cells l i))
-OneReads bytes work words work' words' cells c l st g n i Short =
+OneReads bytes work words work' words' cells c l st g n i None =
     (P : Pack) (h : Graph) (vs : List Bound) (s : Resolving) → Holds bytes work words cells c l st g n false P h vs s → length words < length (pattern_words (read_flex P h vs (copy_at work cells l i ∷ []) s.state).state.store)
 
 -- a mark is one at most
@@ -98,7 +96,7 @@ mark-most true = omega arith
 mark-most false = omega arith
 
 module _ (bytes work words cells : List ℕ) (c : Catalog) (l : Layout) (st : Store) (g : Counts) (n i : ℕ) (K : OneAsked bytes work words cells c l st g n i) (work' words' : List ℕ) (p : Pattern) (st' : Store) (n' : ℕ)
-    (A : Answers bytes work words work' words' cells c (lifted_of l) (table_of l) st g n false (copy_at work cells l i) (read.Read p st' n')) where
+    (A : Answers bytes work words work' words' cells c (lifted_of l) (table_of l) st g n false (copy_at work cells l i) (Some (p, st', n'))) where
   -- what is held then
   abbrev R : Ready bytes work words cells c (lifted_of l) (table_of l) st g n false
   R = K.ready
@@ -118,7 +116,7 @@ module _ (bytes work words cells : List ℕ) (c : Catalog) (l : Layout) (st : St
       record { fits = L.fits; inside = L.inside; index = L.index }
 
   -- so it is read
-  pub one_reads : (k : ℕ) → k ≡ mark (renamed (nodes words' st') p.0) → OneReads bytes work words work' words' cells c l st g n i (Read st' n' k)
+  pub one_reads : (k : ℕ) → k ≡ mark (renamed (nodes words' st') p.0) → OneReads bytes work words work' words' cells c l st g n i (Some (st', n', k))
   one_reads k e = (
     A.0,
     A.1,
@@ -144,12 +142,12 @@ pub record AllRead (bytes work words cells : List ℕ) (c : Catalog) (l : Layout
   pub renamings : k ≡ count_of (renamed state.state.store) patterns
 
 -- what `read_entries` answers
-abbrev pub AllReads : List ℕ → List ℕ → List ℕ → List ℕ → List ℕ → List ℕ → Catalog → Layout → Store → Counts → ℕ → ℕ → Entries → Type 0
-AllReads bytes work words work' words' cells c l st g n copies (Read st' n' k) =
+abbrev pub AllReads : List ℕ → List ℕ → List ℕ → List ℕ → List ℕ → List ℕ → Catalog → Layout → Store → Counts → ℕ → ℕ → Option (Store × ℕ × ℕ) → Type 0
+AllReads bytes work words work' words' cells c l st g n copies (Some (st', n', k)) =
     Framed cells work work' (lifted_of l) (table_of l)
     × (words' ≡ written (nodes words' st') words)
     × ((P : Pack) (h : Graph) (vs : List Bound) (s : Resolving) → Holds bytes work words cells c l st g n false P h vs s → AllRead bytes work' words' cells c l st' g n' k P h vs s (copies_in work cells l copies))
-AllReads bytes work words work' words' cells c l st g n copies Short =
+AllReads bytes work words work' words' cells c l st g n copies None =
     (P : Pack) (h : Graph) (vs : List Bound) (s : Resolving) → Holds bytes work words cells c l st g n false P h vs s → length words < length (pattern_words (read_flex P h vs (copies_in work cells l copies) s.state).state.store)
 
 -- a larger store has the same of its first patterns as variables
@@ -236,7 +234,7 @@ module _ (bytes work₀ words₀ cells : List ℕ) (c : Catalog) (l : Layout) (s
     one_grows work' words' st' n' k' P h vs s x o = subst (λ (r : Resolved). Grows s.state.store r.state.store) o.is (resolve_keeps P h vs false (suc (length h)) (x ∷ []) s.state).0.grows
 
     -- it was read
-    pub going_on : (work' words' : List ℕ) (st' : Store) (n' k' : ℕ) → length words' ≡ length words → OneReads bytes work words work' words' cells c l st g n i (Read st' n' k') → Going bytes work₀ words₀ work' words' cells c l st₀ st' g n₀ n' copies (i + 1) (k + k')
+    pub going_on : (work' words' : List ℕ) (st' : Store) (n' k' : ℕ) → length words' ≡ length words → OneReads bytes work words work' words' cells c l st g n i (Some (st', n', k')) → Going bytes work₀ words₀ work' words' cells c l st₀ st' g n₀ n' copies (i + 1) (k + k')
     going_on work' words' st' n' k' long O = record {
       framed = framed_then cells work₀ work work' (lifted_of l) (table_of l) G.framed O.0;
       long = long ∙ G.long;
@@ -267,7 +265,7 @@ module _ (bytes work₀ words₀ cells : List ℕ) (c : Catalog) (l : Layout) (s
     }
 
     -- there is no room for it
-    pub going_short : (work' words' : List ℕ) → OneReads bytes work words work' words' cells c l st g n i Short → AllReads bytes work₀ words₀ work' words' cells c l st₀ g n₀ copies Short
+    pub going_short : (work' words' : List ℕ) → OneReads bytes work words work' words' cells c l st g n i None → AllReads bytes work₀ words₀ work' words' cells c l st₀ g n₀ copies None
     going_short work' words' O P h vs s H =
         let a = G.each P h vs s H in
         let o = O P h vs a.state a.holding in
@@ -279,7 +277,7 @@ module _ (bytes work₀ words₀ cells : List ℕ) (c : Catalog) (l : Layout) (s
         omega (arith, o, m, ap (λ (z : List Node). length (pattern_words z)) q, ap (λ (d : ℕ). length (pattern_words (store_at work₀ cells l P h vs s.state d))) j, G.long)
 
   -- all were read
-  pub going_done : (work words : List ℕ) (st : Store) (n i k : ℕ) → Going bytes work₀ words₀ work words cells c l st₀ st g n₀ n copies i k → copies ≤ i → AllReads bytes work₀ words₀ work words cells c l st₀ g n₀ copies (Read st n k)
+  pub going_done : (work words : List ℕ) (st : Store) (n i k : ℕ) → Going bytes work₀ words₀ work words cells c l st₀ st g n₀ n copies i k → copies ≤ i → AllReads bytes work₀ words₀ work words cells c l st₀ g n₀ copies (Some (st, n, k))
   going_done work words st n i k G done =
       let e : i ≡ copies = omega (arith, G.low) in
       (G.framed, G.are, λ P h vs s H. subst (λ (j : ℕ). AllRead bytes work words cells c l st g n k P h vs s (copies_in work₀ cells l j)) e (G.each P h vs s H))

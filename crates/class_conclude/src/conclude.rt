@@ -4,14 +4,15 @@ ghost use Rattle.class_conclude.specs.Counted.{TopReadsAt};
 ghost use Rattle.class_conclude.specs.Concludes.{Concluding, Concludes};
 
 use crate::fixed::count_fixed;
-use crate::top::{Back, Wanted, read_back};
+use crate::top::{Wanted, read_back};
 use base::id::Pattern;
 use class_premises::layout::Layout;
-use graph::graph::{Graph, Pushed};
+use definition::{Buffer, Refusal};
+use graph::graph::Graph;
 use pack_read::rule::pass_terms;
 use pack_tables::catalog::Catalog;
 use store::nodes::Store;
-use term_instantiate::terms::{Place, instantiate};
+use term_instantiate::terms::instantiate;
 use term_readback::table::Table;
 
 // A rule and how many variables it has; the word of it that its conclusion starts with; how many variables of copies are noted.
@@ -33,15 +34,8 @@ pub struct Concluded {
     pub fixed: usize,
 }
 
-// The graph and the store as they are then, and what was read; or the cells have no room; or the words have none.
-#[derive(Clone, Copy)]
-pub enum Conclusion {
-    Read(Graph, Store, Concluded),
-    ShortGraph,
-    ShortPatterns,
-}
-
-// The node wanted and the variables of copies read back, and the fixed variables counted.
+// The node wanted and the variables of copies read back, and the fixed variables counted: the graph and the store as they are then, and
+// what was read. It is refused where the words have no room.
 fn read_top(
     pack: &[u8],
     work: &mut [u32],
@@ -52,31 +46,30 @@ fn read_top(
     st: Store,
     g: Graph,
     w: Wanted,
-) -> Conclusion
+) -> Result<(Graph, Store, Concluded), Refusal>
     requires { ToppingAt pack.now work.old words.old cells.now c l st g w }
     ensures { TopReadsAt pack.now work.old words.old work.new words.new cells.now c l st g w result }
 {
-    match read_back(pack, work, words, cells, c, l, st, g, w) {
-        Back::Read(more, p, n, k) => {
-            let t = Table {
-                at: l.graph,
-                end: l.end,
-            };
-            let fixed = count_fixed(work, cells, t, g, n);
-            let read = Concluded {
-                pattern: p,
-                numbered: n,
-                entries: w.copies,
-                renamings: k,
-                fixed: fixed,
-            };
-            Conclusion::Read(g, more, read)
-        }
-        Back::Short => Conclusion::ShortPatterns,
-    }
+    let Some((more, p, n, k)) = read_back(pack, work, words, cells, c, l, st, g, w) else {
+        return Err(Refusal::Short(Buffer::PATTERN));
+    };
+    let t = Table {
+        at: l.graph,
+        end: l.end,
+    };
+    let fixed = count_fixed(work, cells, t, g, n);
+    let read = Concluded {
+        pattern: p,
+        numbered: n,
+        entries: w.copies,
+        renamings: k,
+        fixed,
+    };
+    Ok((g, more, read))
 }
 
-// The conclusion's instance is put into the graph and read back, then the variables of the copies.
+// The conclusion's instance is put into the graph and read back, then the variables of the copies: the graph and the store as they are
+// then, and what was read. It is refused where the cells or the words have no room.
 pub fn conclude(
     pack: &[u8],
     work: &mut [u32],
@@ -88,26 +81,19 @@ pub fn conclude(
     g: Graph,
     env: &[u32],
     q: Ending,
-) -> Conclusion
+) -> Result<(Graph, Store, Concluded), Refusal>
     requires { Concluding pack.now work.old words.old cells.old c l st g env.now q }
     ensures { Concludes pack.now work.old words.old cells.old work.new words.new cells.new c l st g env.now q result }
 {
     let to = pass_terms(pack, work, c, q.rule, q.vars, q.from, 1);
-    let place = Place {
-        rule: q.rule,
-        vars: q.vars,
-        at: l.graph,
-        end: l.end,
+    let place = l.place(q.rule, q.vars);
+    let Some((x, h)) = instantiate(pack, work, cells, c, place, g, env, q.from, to) else {
+        return Err(Refusal::Short(Buffer::GRAPH));
     };
-    match instantiate(pack, work, cells, c, place, g, env, q.from, to) {
-        Pushed::At(x, h) => {
-            let wanted = Wanted {
-                before: g.nodes,
-                node: x,
-                copies: q.copies,
-            };
-            read_top(pack, work, words, cells, c, l, st, h, wanted)
-        }
-        Pushed::Short => Conclusion::ShortGraph,
-    }
+    let wanted = Wanted {
+        before: g.nodes,
+        node: x,
+        copies: q.copies,
+    };
+    read_top(pack, work, words, cells, c, l, st, h, wanted)
 }

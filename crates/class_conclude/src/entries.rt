@@ -16,15 +16,7 @@ use pack_tables::catalog::Catalog;
 use store::nodes::Store;
 use term_lift::lift::Lifted;
 use term_readback::resolve::resolve;
-use term_readback::root::Resolved;
 use term_readback::table::{Reading, Table};
-
-// The store as it is then, how many variables are numbered, and how many of the patterns are variables; or the words have no room.
-#[derive(Clone, Copy)]
-pub enum Entries {
-    Read(Store, usize, usize),
-    Short,
-}
 
 // 1 if pattern `p` is a variable, else 0.
 fn renames(work: &[u32], words: &[u32], l: Layout, st: Store, p: Pattern) -> usize
@@ -32,14 +24,14 @@ fn renames(work: &[u32], words: &[u32], l: Layout, st: Store, p: Pattern) -> usi
     ensures { result ≡ mark (is_variable (get_or (nodes words.now st) p.0 no_node)) }
 {
     let from = l.lifted + Lifted::NODE * l.nodes;
-    let end = l.copied;
-    if st.head(&work[from..end], words, p) == Pattern::VAR {
+    if st.head(&work[from..l.copied], words, p) == Pattern::VAR {
         return 1;
     }
     0
 }
 
-// Variable `i` of the copies, behind so many numbered.
+// Variable `i` of the copies, behind so many numbered: the store as it is then, how many variables are numbered, and 1 if the pattern is
+// a variable, else 0. `None` where the words have no room.
 fn read_entry(
     pack: &[u8],
     work: &mut [u32],
@@ -51,38 +43,30 @@ fn read_entry(
     g: Graph,
     numbered: usize,
     i: usize,
-) -> Entries
+) -> Option<(Store, usize, usize)>
     requires { OneAsked pack.now work.old words.old cells.now c l st g numbered i }
     ensures { OneReads pack.now work.old words.old work.new words.new cells.now c l st g numbered i result }
 {
     let at = l.graph + copies_at(cells);
     let x = Node(work[at + i]);
-    let lifted = Lifted {
-        at: l.lifted,
-        nodes: l.nodes,
-        end: l.copied,
-    };
     let t = Table {
         at: l.graph,
         end: l.end,
     };
     let reading = Reading {
         catalog: c,
-        lifted: lifted,
+        lifted: l.lifting(),
         table: t,
         graph: g,
         everyone: false,
     };
-    match resolve(pack, work, words, cells, reading, st, numbered, x) {
-        Resolved::Read(p, more, n) => {
-            let k = renames(work, words, l, more, p);
-            Entries::Read(more, n, k)
-        }
-        Resolved::Short => Entries::Short,
-    }
+    let (p, more, n) = resolve(pack, work, words, cells, reading, st, numbered, x)?;
+    let k = renames(work, words, l, more, p);
+    Some((more, n, k))
 }
 
-// All of them, so many.
+// All of them, so many: the store as it is then, how many variables are numbered, and how many of the patterns are variables. `None`
+// where the words have no room.
 pub fn read_entries(
     pack: &[u8],
     work: &mut [u32],
@@ -94,26 +78,18 @@ pub fn read_entries(
     g: Graph,
     numbered: usize,
     copies: usize,
-) -> Entries
+) -> Option<(Store, usize, usize)>
     requires { AllAsked pack.now work.old words.old cells.now c l st g numbered copies }
     ensures { AllReads pack.now work.old words.old work.new words.new cells.now c l st g numbered copies result }
 {
     let mut grown = st;
     let mut n = numbered;
     let mut renamings: usize = 0;
-    let mut i: usize = 0;
-    while i < copies {
-        match read_entry(pack, work, words, cells, c, l, grown, g, n, i) {
-            Entries::Read(more, m, k) => {
-                grown = more;
-                n = m;
-                renamings += k;
-                i += 1;
-            }
-            Entries::Short => {
-                return Entries::Short;
-            }
-        }
+    for i in 0..copies {
+        let (more, m, k) = read_entry(pack, work, words, cells, c, l, grown, g, n, i)?;
+        grown = more;
+        n = m;
+        renamings += k;
     }
-    Entries::Read(grown, n, renamings)
+    Some((grown, n, renamings))
 }

@@ -4,7 +4,6 @@ ghost use Rattle.class_conclude.specs.Fixed.{FixedAsked, FixesOne, ColouredIn, F
 ghost use Rattle.class_conclude.specs.FixedWhole.{NumbersIn, CountsFixed};
 
 use base::id::{Node, Pattern};
-use buffer::zero::zero_words;
 use graph::graph::Graph;
 use graph::places::{colours_at, numbers_at, values_at};
 use term_readback::table::{Table, put_word, word_at};
@@ -16,11 +15,9 @@ fn mark_numbered(work: &mut [u32], cells: &[u32], t: Table, numbered: usize)
 {
     let colours = colours_at(cells);
     let numbers = numbers_at(cells);
-    let mut i: usize = 0;
-    while i < numbered {
+    for i in 0..numbered {
         let x = word_at(work, t, numbers + i) as usize;
         put_word(work, t, colours + x, 1);
-        i += 1;
     }
 }
 
@@ -29,16 +26,14 @@ fn fixes(work: &[u32], cells: &[u32], t: Table, g: Graph, x: Node) -> usize
     requires { FixedAsked work.now cells.now t g x.0 }
     ensures { FixesOne work.now cells.now t g x.0 result }
 {
-    let a = t.at;
-    let e = t.end;
     let i = x.0 as usize;
-    if !g.is_root(cells, &work[a..e], x) {
+    if !g.is_root(cells, &work[t.at..t.end], x) {
         return 0;
     }
-    if g.head(cells, &work[a..e], x) != Pattern::VAR {
+    if g.head(cells, &work[t.at..t.end], x) != Pattern::VAR {
         return 0;
     }
-    if g.is_flexible(cells, &work[a..e], x) {
+    if g.is_flexible(cells, &work[t.at..t.end], x) {
         return 0;
     }
     if word_at(work, t, values_at(cells) + i) == 0 {
@@ -56,10 +51,8 @@ fn count_coloured(work: &[u32], cells: &[u32], t: Table, g: Graph) -> usize
     ensures { FixesAll work.now cells.now t g result }
 {
     let mut k: usize = 0;
-    let mut x: usize = 0;
-    while x < g.nodes {
+    for x in 0..g.nodes {
         k += fixes(work, cells, t, g, Node(x as u32));
-        x += 1;
     }
     k
 }
@@ -71,7 +64,7 @@ pub fn count_fixed(work: &mut [u32], cells: &[u32], t: Table, g: Graph, numbered
 {
     let from = t.at + colours_at(cells);
     let end = from + g.nodes;
-    zero_words(&mut work[from..end]);
+    work[from..end].fill(0);
     mark_numbered(work, cells, t, numbered);
     count_coloured(work, cells, t, g)
 }

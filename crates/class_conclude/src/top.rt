@@ -4,17 +4,14 @@ ghost use Rattle.term_readback.specs.Words.{table_end};
 ghost use Rattle.class_conclude.specs.Top.{Prepares, ToppingAt};
 ghost use Rattle.class_conclude.specs.Back.{BackReadsAt};
 
-use crate::entries::{Entries, read_entries};
+use crate::entries::read_entries;
 use base::id::{Node, Pattern};
-use buffer::zero::zero_words;
 use class_premises::layout::Layout;
 use graph::graph::Graph;
 use graph::places::values_at;
 use pack_tables::catalog::Catalog;
 use store::nodes::Store;
-use term_lift::lift::Lifted;
 use term_readback::resolve::{clear, resolve};
-use term_readback::root::Resolved;
 use term_readback::table::{Reading, Table};
 
 // What is read back: a node, and so many variables of copies. Nodes from `before` on have no value.
@@ -25,14 +22,6 @@ pub struct Wanted {
     pub copies: usize,
 }
 
-// The store as it is then, the conclusion's pattern, how many variables are numbered, and how many of the copies' are renamed; or the
-// words have no room.
-#[derive(Clone, Copy)]
-pub enum Back {
-    Read(Store, Pattern, usize, usize),
-    Short,
-}
-
 // Nodes from `before` on have no value, and nothing was read back.
 fn prepare(work: &mut [u32], cells: &[u32], l: Layout, before: usize, g: Graph)
     requires { (l.graph + table_end cells.now ≤ l.end) × (l.end ≤ length work.old) × (before ≤ g.nodes) × (g.nodes ≤ length cells.now) }
@@ -41,7 +30,7 @@ fn prepare(work: &mut [u32], cells: &[u32], l: Layout, before: usize, g: Graph)
     let values = l.graph + values_at(cells);
     let from = values + before;
     let end = values + g.nodes;
-    zero_words(&mut work[from..end]);
+    work[from..end].fill(0);
     let t = Table {
         at: l.graph,
         end: l.end,
@@ -49,7 +38,8 @@ fn prepare(work: &mut [u32], cells: &[u32], l: Layout, before: usize, g: Graph)
     clear(work, cells, t, g);
 }
 
-// The node wanted with all its variables numbered, then the variables of copies.
+// The node wanted with all its variables numbered, then the variables of copies: the store as it is then, the node's pattern, how many
+// variables are numbered, and how many of the copies' are renamed. `None` where the words have no room.
 pub fn read_back(
     pack: &[u8],
     work: &mut [u32],
@@ -60,34 +50,23 @@ pub fn read_back(
     st: Store,
     g: Graph,
     w: Wanted,
-) -> Back
+) -> Option<(Store, Pattern, usize, usize)>
     requires { ToppingAt pack.now work.old words.old cells.now c l st g w }
     ensures { BackReadsAt pack.now work.old words.old work.new words.new cells.now c l st g w result }
 {
     prepare(work, cells, l, w.before, g);
-    let lifted = Lifted {
-        at: l.lifted,
-        nodes: l.nodes,
-        end: l.copied,
-    };
     let t = Table {
         at: l.graph,
         end: l.end,
     };
     let reading = Reading {
         catalog: c,
-        lifted: lifted,
+        lifted: l.lifting(),
         table: t,
         graph: g,
         everyone: true,
     };
-    match resolve(pack, work, words, cells, reading, st, 0, w.node) {
-        Resolved::Read(p, more, n) => {
-            match read_entries(pack, work, words, cells, c, l, more, g, n, w.copies) {
-                Entries::Read(last, m, k) => Back::Read(last, p, m, k),
-                Entries::Short => Back::Short,
-            }
-        }
-        Resolved::Short => Back::Short,
-    }
+    let (p, more, n) = resolve(pack, work, words, cells, reading, st, 0, w.node)?;
+    let (last, m, k) = read_entries(pack, work, words, cells, c, l, more, g, n, w.copies)?;
+    Some((last, p, m, k))
 }

@@ -1,4 +1,5 @@
 -- The conclusion of a cut class, as the definition has it.
+use Rattle.std.specs.Prelude.{Option, Some, None}
 use Rattle.std.specs.Prelude.{◌≡◌, refl, List, ◌∷◌, ℕ, suc, ◌+◌, ◌-◌, ◌<◌, length, take, drop}
 use Rattle.std.proofs.Common.{sym, ap, ◌∙◌, subst, arith}
 use Rattle.definition.specs.Pack.{Node}
@@ -9,8 +10,6 @@ use Rattle.base.specs.Outside.{outside_then}
 use Rattle.store.specs.Words.{node_with}
 use Rattle.store.specs.Stored.{nodes, written}
 use Rattle.store.specs.declared.nodes.Store.{Store}
-use Rattle.store.specs.declared.nodes.Interned.{Interned}
-use Rattle.store.specs.declared.nodes.Interned.TheVariants.{Id, Short}
 use Rattle.base.specs.declared.id.Pattern.{Pattern}
 use Rattle.pack_tables.specs.declared.catalog.Catalog.{Catalog}
 use Rattle.pack_read.specs.Held.{OfHeld}
@@ -34,9 +33,9 @@ pub record Unconcluded (bytes work words work' : List ℕ) (c : Catalog) (l : Li
   pub apart : Apart work work' l
 
 -- what `cut_conclusion` answers
-abbrev pub Concludes : List ℕ → List ℕ → List ℕ → List ℕ → List ℕ → Catalog → Lifted → Store → ℕ → Interned → Type 0
-Concludes bytes work words work' words' c l st p (Id q st') = Concluded bytes work words work' words' c l st p q st'
-Concludes bytes work words work' words' c l st p Short = Unconcluded bytes work words work' c l st p
+abbrev pub Concludes : List ℕ → List ℕ → List ℕ → List ℕ → List ℕ → Catalog → Lifted → Store → ℕ → Option (Pattern × Store) → Type 0
+Concludes bytes work words work' words' c l st p (Some (q, st')) = Concluded bytes work words work' words' c l st p q st'
+Concludes bytes work words work' words' c l st p None = Unconcluded bytes work words work' c l st p
 
 -- the key's node
 key-node : (p : ℕ) (ps : List ℕ) → node_with (p ∷ ps) ≡ headed p ps
@@ -70,12 +69,12 @@ module _ (bytes work words work₁ words₁ : List ℕ) (c : Catalog) (l : Lifte
 
   module _ (long : length words₁ ≡ length words) (work' words' : List ℕ) where
     -- it has no room, or it has
-    pub concludes : (r : Interned) → Interns work₁ words₁ work' words' l st₁ (take (n + 1 - 0) (drop 0 key)) r → Concludes bytes work words work' words' c l st p r
-    concludes Short A = record {
+    pub concludes : (r : Option (Pattern × Store)) → Interns work₁ words₁ work' words' l st₁ (take (n + 1 - 0) (drop 0 key)) r → Concludes bytes work words work' words' c l st p r
+    concludes None A = record {
       short = λ P R Q. omega (arith, A.0, long, ap (λ (o : Stored). length (pattern_words o.store)) (interned_is P R Q));
       apart = outside_then l.at l.end work work₁ work' F.apart A.1;
     }
-    concludes (Id q st') A =
+    concludes (Some (q, st')) A =
         let g : Grows (nodes words₁ st₁) (nodes words' st') = subst (Grows (nodes words₁ st₁)) (ap (λ (o : Stored). o.store) A.1) (interned (nodes words₁ st₁) (node_with (take (n + 1 - 0) (drop 0 key)))).grows in
         record {
           lifts = A.0 bytes c F.lifts;

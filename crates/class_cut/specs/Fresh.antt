@@ -1,4 +1,5 @@
 -- Fresh variables interned one by one: with each, what is left to do gives the same numbers and the same store.
+use Rattle.std.specs.Prelude.{Option, Some, None}
 use Rattle.std.specs.Prelude.{◌≡◌, refl, List, [], ◌∷◌, ◌++◌, ℕ, suc, ◌+◌, ◌≤◌, ◌<◌, length, get_or, set, take, drop}
 use Rattle.std.proofs.Common.{sym, ap, ◌∙◌, subst, append_assoc, append-nil, arith, add-one, length-set, drop_of_length-le, take-suc, take-suc-set, drop-cons}
 use Rattle.definition.specs.Pack.{Node, Pack, symbol_of}
@@ -12,7 +13,6 @@ use Rattle.store.specs.Words.{node_with}
 use Rattle.store.specs.Stored.{nodes, written}
 use Rattle.store.specs.Table.{begins_written}
 use Rattle.store.specs.declared.nodes.Store.{Store}
-use Rattle.store.specs.declared.nodes.Interned.TheVariants.{Id, Short}
 use Rattle.base.specs.declared.id.Pattern.{Pattern}
 use Rattle.pack_tables.specs.Catalog.{records_of}
 use Rattle.pack_tables.specs.declared.catalog.Catalog.{Catalog}
@@ -25,8 +25,6 @@ use Rattle.term_lift.specs.Runs.{written_again, words-grow}
 use Rattle.term_lift.specs.declared.lift.Lifted.{Lifted}
 use Rattle.term_lift.specs.Kept.{Indexed, Interns}
 use Rattle.theory.specs.Making.Interns.{fresh_grows}
-use Rattle.class_cut.specs.declared.conclusion.Fresh.{Fresh}
-use Rattle.class_cut.specs.declared.conclusion.Fresh.TheVariants as fresh
 
 -- the sorts of a predicate's arguments
 abbrev pub inputs_of : Pack → ℕ → List ℕ
@@ -80,9 +78,9 @@ pub record Unfreshened (bytes work words work' : List ℕ) (c : Catalog) (l : Li
   pub apart : Apart work work' l
 
 -- what `fresh_variables` answers
-abbrev pub Freshens : List ℕ → List ℕ → List ℕ → List ℕ → List ℕ → Catalog → Lifted → Store → ℕ → ℕ → List ℕ → Fresh → Type 0
-Freshens bytes work words work' words' c l st p n key (fresh.Grown st') = Freshened bytes work words work' words' c l st p n key st'
-Freshens bytes work words work' words' c l st p n key fresh.Short = Unfreshened bytes work words work' c l st p
+abbrev pub Freshens : List ℕ → List ℕ → List ℕ → List ℕ → List ℕ → Catalog → Lifted → Store → ℕ → ℕ → List ℕ → Option Store → Type 0
+Freshens bytes work words work' words' c l st p n key (Some st') = Freshened bytes work words work' words' c l st p n key st'
+Freshens bytes work words work' words' c l st p n key None = Unfreshened bytes work words work' c l st p
 
 -- ---- the definition alone
 -- none is there yet
@@ -204,7 +202,7 @@ module _ (bytes work₀ words₀ : List ℕ) (c : Catalog) (l : Lifted) (st₀ :
 
         module _ (work' words' : List ℕ) where
           -- there is no room for it
-          pub goes_short : Interns work words work' words' l st (variable_head ∷ k ∷ sort ∷ []) Short → Unfreshened bytes work₀ words₀ work' c l st₀ p
+          pub goes_short : Interns work words work' words' l st (variable_head ∷ k ∷ sort ∷ []) None → Unfreshened bytes work₀ words₀ work' c l st₀ p
           goes_short A = record {
             short = λ P R Q.
                 let s : length words₀ < length (pattern_words (intern (nodes words st) (variable_node k (get_or (inputs_of P p) k 0))).store) =
@@ -214,7 +212,7 @@ module _ (bytes work₀ words₀ : List ℕ) (c : Catalog) (l : Lifted) (st₀ :
           }
 
           -- there is
-          pub goes_more : (i : Pattern) (st' : Store) → length words' ≡ length words → Interns work words work' words' l st (variable_head ∷ k ∷ sort ∷ []) (Id i st')
+          pub goes_more : (i : Pattern) (st' : Store) → length words' ≡ length words → Interns work words work' words' l st (variable_head ∷ k ∷ sort ∷ []) (Some (i, st'))
               → Goes bytes work₀ words₀ work' words' c l st₀ st' p n (k + 1) (set key (k + 1) i.0)
           goes_more i st' e A = record {
             most = omega (arith, h);

@@ -1,4 +1,5 @@
 -- A cut class made, as the definition makes it.
+use Rattle.std.specs.Prelude.{Result, Ok, Err}
 use Rattle.std.specs.Prelude.{◌≡◌, refl, true, List, [], ◌∷◌, ◌++◌, map, ℕ, ◌+◌, ◌-◌, ◌≤◌, ◌<◌, length, get_or}
 use Rattle.std.proofs.Common.{sym, ap, ◌∙◌, subst, arith, length-append}
 use Rattle.std.proofs.lemmas.List.{length-map}
@@ -33,8 +34,6 @@ use Rattle.class_keys.specs.declared.classes.Counts.{Counts}
 use Rattle.term_lift.specs.Nodes.{laid_same}
 use Rattle.class_premises.specs.declared.layout.Layout.{Layout}
 use Rattle.class_premises.specs.declared.building.Building.{Building}
-use Rattle.class_premises.specs.declared.building.ClassMade.{ClassMade}
-use Rattle.class_premises.specs.declared.building.ClassMade.TheVariants.{Made, Refused}
 use Rattle.class_premises.specs.Buffers.{handed, uncounted}
 use Rattle.class_premises.specs.Standing.{lifted_of, Standing}
 use Rattle.class_premises.specs.Added.{built_with, add_short_patterns, add_short_row, add_fine}
@@ -43,6 +42,8 @@ use Rattle.class_premises.specs.Grown.{Grown, grown-count, grown-counted, grown_
 use Rattle.class_cut.specs.Fresh.{inputs_of}
 use Rattle.class_cut.specs.Conclusion.{Concluded, Unconcluded}
 use Rattle.class_cut.specs.Marks.{Writing, Writes, writes_row}
+use Rattle.class_premises.specs.declared.building.Counted.{Counted}
+use Rattle.definition.specs.declared.Refusal.{Refusal}
 
 -- the class of predicate p with this conclusion
 abbrev pub cut_class : Pack → ℕ → ℕ → Class
@@ -81,22 +82,22 @@ Whatever bytes work class words c k l st fill i p F =
     (cells : List ℕ) (r : Counts) (memo : Memo) (P : Pack) (b : Built) → Asks bytes work class words cells c k l r st memo fill i p P b → F cells r memo P b
 
 -- what `make_cut` answers
-abbrev pub Cuts : List ℕ → List ℕ → List ℕ → List ℕ → List ℕ → List ℕ → List ℕ → Catalog → Keying → Layout → Store → Memo → ℕ → ℕ → ℕ → ClassMade → Type 0
-Cuts bytes work class words work' class' words' c k l st known fill i p (Made s' f) =
+abbrev pub Cuts : List ℕ → List ℕ → List ℕ → List ℕ → List ℕ → List ℕ → List ℕ → Catalog → Keying → Layout → Store → Memo → ℕ → ℕ → ℕ → Result (Building × Counted) Refusal → Type 0
+Cuts bytes work class words work' class' words' c k l st known fill i p (Ok (s', f)) =
     (s' ≡ handed c k l s'.store known s'.fill)
     × (f ≡ uncounted)
     × Whatever bytes work class words c k l st fill i p (λ cells r memo P b. Done bytes work class words work' class' words' cells c k l r s'.store memo s'.fill p P b)
     × (words' ≡ written (nodes words' s'.store) words)
     × Outside l.rows l.copied work work'
     × Outside fill s'.fill class class'
-Cuts bytes work class words work' class' words' c k l st known fill i p (Refused z) =
+Cuts bytes work class words work' class' words' c k l st known fill i p (Err z) =
     Whatever bytes work class words c k l st fill i p (λ cells r memo P b. (L : Lent) → L.pattern ≡ length words → L.class ≡ length class → outcome L (make_cut P p b) ≡ refuse z)
 
 -- both of what is at hand
 abbrev pub CuttingIn : List ℕ → List ℕ → List ℕ → List ℕ → Building → ℕ → ℕ → Type 0
 CuttingIn bytes work class words s i p = Cutting bytes work class words s.catalog s.keying s.layout s.store s.fill i p
 
-abbrev pub CutsIn : List ℕ → List ℕ → List ℕ → List ℕ → List ℕ → List ℕ → List ℕ → Building → ℕ → ℕ → ClassMade → Type 0
+abbrev pub CutsIn : List ℕ → List ℕ → List ℕ → List ℕ → List ℕ → List ℕ → List ℕ → Building → ℕ → ℕ → Result (Building × Counted) Refusal → Type 0
 CutsIn bytes work class words work' class' words' s i p r = Cuts bytes work class words work' class' words' s.catalog s.keying s.layout s.store s.memo s.fill i p r
 
 -- ---- the definition alone

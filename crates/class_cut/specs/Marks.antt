@@ -1,9 +1,10 @@
 -- Marks that are all 1, and a row with them.
-use Rattle.std.specs.Prelude.{◌≡◌, refl, true, List, [], ◌∷◌, map, ℕ, zero, suc, ◌+◌, ◌*◌, ◌≤◌, ◌<◌, length, get_or, set}
-use Rattle.std.proofs.Common.{sym, ap, ◌∙◌, arith, get_or-set_same, get_or-set_other}
+use Rattle.std.specs.Prelude.{◌≡◌, refl, true, List, [], ◌∷◌, map, ℕ, zero, suc, ◌+◌, ◌*◌, ◌≤◌, ◌<◌, length, get_or, set, take, drop, ◌-◌, replicate}
+use Rattle.std.proofs.Common.{sym, subst, ap, ◌∙◌, arith, get_or-set_same, get_or-set_other}
 use Rattle.std.proofs.Math.Decide.{dec_lt}
-use Rattle.std.proofs.lemmas.List.{length-map}
+use Rattle.std.proofs.lemmas.List.{length-map, length-replicate, get_or-replicate}
 use Rattle.definition.specs.Classes.{Class, mark}
+use Rattle.base.specs.Part.{put, length_part, part-lent, length-put, put-before, put-at, put-behind, put-lent}
 use Rattle.base.specs.Outside.{Outside, outside_none, outside_then, outside_set}
 use Rattle.class_keys.specs.ClassWords.{count_in}
 use Rattle.class_keys.specs.declared.classes.Keying.{Keying}
@@ -33,6 +34,20 @@ marked_more class class' at n j room h M = record {
         ap (λ (k : ℕ). get_or (set class' (at + j) 1) k 0) e ∙ get_or-set_same class' (at + j) 1 0 (omega (arith, M.outside.long, room))
   ];
 }
+
+-- words were lent and came back as ones: all are
+pub marked_filled : (class : List ℕ) (at n : ℕ) → at + n ≤ length class → (ys : List ℕ) → ys ≡ replicate (length (take (at + n - at) (drop at class))) 1 → Marked class (put at (at + n - at) ys class) at n n
+marked_filled class at n room ys y =
+    let lent : length (take (at + n - at) (drop at class)) ≡ n = ap length (part-lent at (at + n) n class refl) ∙ length_part at n class room in
+    let many : length ys ≡ n = ap length y ∙ length-replicate (length (take (at + n - at) (drop at class))) 1 ∙ lent in
+    let e : put at (at + n - at) ys class ≡ put at n ys class = put-lent at (at + n) n class ys ys refl refl in
+    subst (λ (zs : List ℕ). Marked class zs at n n) (sym e) (record {
+      few = omega arith;
+      outside = record { long = length-put at n class room ys many; ahead = put-before at n class room ys many; behind = put-behind at n class room ys many };
+      ones = λ i h.
+          put-at at n class room ys many i h ∙ ap (λ (zs : List ℕ). get_or zs i 0) y
+          ∙ get_or-replicate (length (take (at + n - at) (drop at class))) i 1 0 (omega (arith, lent, h));
+    })
 
 -- the marks of variables that are all flexible
 pub ones_are : (ss : List ℕ) (j : ℕ) → j < length ss → get_or (map mark (map (λ s. true) ss)) j 0 ≡ 1

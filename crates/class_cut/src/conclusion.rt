@@ -11,18 +11,11 @@ use base::id::Pattern;
 use base::limit::Limit;
 use pack_read::symbol::{symbol_arity, symbol_input};
 use pack_tables::catalog::Catalog;
-use store::nodes::{Interned, Store};
+use store::nodes::Store;
 use term_lift::intern::intern_key;
 use term_lift::lift::Lifted;
 
-// The store that has the variables, or that there is no room for one.
-#[derive(Clone, Copy)]
-enum Fresh {
-    Grown(Store),
-    Short,
-}
-
-// Variable `k` of a sort.
+// Variable `k` of a sort: its number, and the store that has it; `None` where there is no room for it.
 fn fresh_variable(
     work: &mut [u32],
     words: &mut [u32],
@@ -30,18 +23,15 @@ fn fresh_variable(
     st: Store,
     k: usize,
     sort: u32,
-) -> Interned
+) -> Option<(Pattern, Store)>
     requires { Indexed work.old words.old l st × (k < 4294967296) }
     ensures { Interns work.old words.old work.new words.new l st (variable_head ∷ k ∷ sort ∷ []) result }
 {
-    let mut key = [0; 3];
-    key[0] = Pattern::VAR;
-    key[1] = k as u32;
-    key[2] = sort;
-    intern_key(work, words, l, st, &key)
+    intern_key(work, words, l, st, &[Pattern::VAR, k as u32, sort])
 }
 
-// A variable for each of the `n` inputs of predicate `p`; their numbers stand behind it in the key.
+// A variable for each of the `n` inputs of predicate `p`; their numbers stand behind it in the key. The store that has them, or `None`
+// where there is no room for one.
 fn fresh_variables(
     pack: &[u8],
     work: &mut [u32],
@@ -52,29 +42,21 @@ fn fresh_variables(
     p: u32,
     n: usize,
     key: &mut [u32],
-) -> Fresh
+) -> Option<Store>
     requires { Starts pack.now work.old words.old c l st p n key.old }
     ensures { Freshens pack.now work.old words.old work.new words.new c l st p n key.new result }
 {
     let mut grown = st;
-    let mut k: usize = 0;
-    while k < n {
+    for k in 0..n {
         let sort = symbol_input(pack, work, c, p as usize, k);
-        match fresh_variable(work, words, l, grown, k, sort) {
-            Interned::Id(q, more) => {
-                k += 1;
-                key[k] = q.0;
-                grown = more;
-            }
-            Interned::Short => {
-                return Fresh::Short;
-            }
-        }
+        let (q, more) = fresh_variable(work, words, l, grown, k, sort)?;
+        key[k + 1] = q.0;
+        grown = more;
     }
-    Fresh::Grown(grown)
+    Some(grown)
 }
 
-// The conclusion of predicate `p`'s cut class: its number, and the store that has it; or that there is no room for it.
+// The conclusion of predicate `p`'s cut class: its number, and the store that has it; `None` where there is no room for it.
 pub fn cut_conclusion(
     pack: &[u8],
     work: &mut [u32],
@@ -83,15 +65,13 @@ pub fn cut_conclusion(
     l: Lifted,
     st: Store,
     p: u32,
-) -> Interned
+) -> Option<(Pattern, Store)>
     requires { Lifts pack.now work.old words.old c l st × (p < length (records_of work.old c 1)) }
     ensures { Concludes pack.now work.old words.old work.new words.new c l st p result }
 {
     let n = symbol_arity(pack, work, c, p as usize);
     let mut key = [0; Limit::KEY];
     key[0] = p;
-    match fresh_variables(pack, work, words, c, l, st, p, n, &mut key) {
-        Fresh::Grown(more) => intern_key(work, words, l, more, &key[0..n + 1]),
-        Fresh::Short => Interned::Short,
-    }
+    let more = fresh_variables(pack, work, words, c, l, st, p, n, &mut key)?;
+    intern_key(work, words, l, more, &key[0..n + 1])
 }

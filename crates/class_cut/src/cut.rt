@@ -3,12 +3,10 @@ ghost use Rattle.class_cut.specs.Making.{CuttingIn, CutsIn};
 
 use crate::conclusion::cut_conclusion;
 use crate::row::write_cut;
-use class_premises::building::{Building, ClassMade, Counted, go_on};
+use class_premises::building::{Building, Counted, go_on};
 use class_premises::row::Row;
 use definition::{Buffer, Refusal};
 use pack_read::symbol::symbol_arity;
-use store::nodes::Interned;
-use term_lift::lift::Lifted;
 
 // The cut class of predicate `p`, class `i`; figures count nothing of it. A refusal leaves open what all buffers but the pack hold then.
 pub fn make_cut(
@@ -19,27 +17,21 @@ pub fn make_cut(
     s: Building,
     i: usize,
     p: u32,
-) -> ClassMade
+) -> Result<(Building, Counted), Refusal>
     requires { CuttingIn pack.now work.old class.old words.old s i p }
     ensures { CutsIn pack.now work.old class.old words.old work.new class.new words.new s i p result }
 {
-    let lifted = Lifted {
-        at: s.layout.lifted,
-        nodes: s.layout.nodes,
-        end: s.layout.copied,
+    let lifted = s.layout.lifting();
+    let Some((q, more)) = cut_conclusion(pack, work, words, s.catalog, lifted, s.store, p) else {
+        return Err(Refusal::Short(Buffer::PATTERN));
     };
-    match cut_conclusion(pack, work, words, s.catalog, lifted, s.store, p) {
-        Interned::Id(q, more) => {
-            let n = symbol_arity(pack, work, s.catalog, p as usize);
-            if class.len() - s.fill < Row::MARKS + n {
-                return ClassMade::Refused(Refusal::Short(Buffer::CLASS));
-            }
-            write_cut(work, class, s, i, q, n);
-            ClassMade::Made(
-                go_on(s, more, s.memo, s.fill + Row::MARKS + n),
-                Counted::NONE,
-            )
-        }
-        Interned::Short => ClassMade::Refused(Refusal::Short(Buffer::PATTERN)),
+    let n = symbol_arity(pack, work, s.catalog, p as usize);
+    if class.len() - s.fill < Row::MARKS + n {
+        return Err(Refusal::Short(Buffer::CLASS));
     }
+    write_cut(work, class, s, i, q, n);
+    Ok((
+        go_on(s, more, s.memo, s.fill + Row::MARKS + n),
+        Counted::NONE,
+    ))
 }

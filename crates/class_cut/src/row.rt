@@ -12,11 +12,7 @@ fn put_marks(class: &mut [u32], at: usize, n: usize)
     requires { at + n ≤ length class.old }
     ensures { Marked class.old class.new at n n }
 {
-    let mut j: usize = 0;
-    while j < n {
-        class[at + j] = 1;
-        j += 1;
-    }
+    class[at..at + n].fill(1);
 }
 
 // The row of class `i`, with this conclusion and `n` variables, behind the others.

@@ -1,4 +1,5 @@
 -- The probe table of the classes' keys: a class's key is that of its first step.
+use Rattle.std.specs.Prelude.{Result, Ok, Err}
 use Rattle.std.specs.Prelude.{◌≡◌, Bool, true, false, ℕ, ◌+◌, ◌*◌, ◌-◌, ◌≤◌, ◌<◌, length, get_or, drop}
 use Rattle.std.proofs.Common.{sym, ◌∙◌, subst}
 use Rattle.std.proofs.Math.Path.{ap}
@@ -20,8 +21,6 @@ use Rattle.class_keys.specs.Spell.{spell}
 use Rattle.class_keys.specs.ClassWords.{first_in, slots_at, slots_in, Keyable, placed, slot_at, length-slots}
 use Rattle.class_keys.specs.Writing.{Asked, Written}
 use Rattle.class_keys.specs.declared.classes.Keying.{Keying}
-use Rattle.class_keys.specs.declared.table.Slot.{Slot}
-use Rattle.class_keys.specs.declared.table.Slot.TheVariants.{Found, Free}
 
 -- the key of class i
 unfoldable pub class_key : Pack → List ℕ → List ℕ → Keying → ℕ → List ℕ
@@ -55,14 +54,14 @@ pub record Probing (bytes work class : List ℕ) (c : Catalog) (k : Keying) (h :
   pub passed : OfHeld bytes work c (λ P. Passed (slots_in work k (steps_of work c)) (class_key P work class k) key h t)
 
 -- what it answers
-abbrev pub Probed : List ℕ → List ℕ → List ℕ → Catalog → Keying → ℕ → ℕ → List ℕ → Slot → Type 0
-Probed bytes work class c k m h key (Found i) = (i < m) × OfHeld bytes work c (λ P. class_key P work class k i ≡ key)
-Probed bytes work class c k m h key (Free t) = (t < 3 * steps_of work c + 1) × OfHeld bytes work c (λ P. Passed (slots_in work k (steps_of work c)) (class_key P work class k) key h t × (get_or (slots_in work k (steps_of work c)) t 0 ≡ 0))
+abbrev pub Probed : List ℕ → List ℕ → List ℕ → Catalog → Keying → ℕ → ℕ → List ℕ → Result ℕ ℕ → Type 0
+Probed bytes work class c k m h key (Ok i) = (i < m) × OfHeld bytes work c (λ P. class_key P work class k i ≡ key)
+Probed bytes work class c k m h key (Err t) = (t < 3 * steps_of work c + 1) × OfHeld bytes work c (λ P. Passed (slots_in work k (steps_of work c)) (class_key P work class k) key h t × (get_or (slots_in work k (steps_of work c)) t 0 ≡ 0))
 
 -- the same for the key of step s
-abbrev pub Sought : List ℕ → List ℕ → List ℕ → Catalog → Keying → ℕ → ℕ → Slot → Type 0
-Sought bytes work class c k m s (Found i) = (i < m) × OfHeld bytes work c (λ P. class_key P work class k i ≡ spell (key_of P class s))
-Sought bytes work class c k m s (Free t) =
+abbrev pub Sought : List ℕ → List ℕ → List ℕ → Catalog → Keying → ℕ → ℕ → Result ℕ ℕ → Type 0
+Sought bytes work class c k m s (Ok i) = (i < m) × OfHeld bytes work c (λ P. class_key P work class k i ≡ spell (key_of P class s))
+Sought bytes work class c k m s (Err t) =
     (t < 3 * steps_of work c + 1) × OfHeld bytes work c (λ P.
     Passed (slots_in work k (steps_of work c)) (class_key P work class k) (spell (key_of P class s)) (hash_of (hashes_for (steps_of work c)) (spell (key_of P class s))) t
     × (get_or (slots_in work k (steps_of work c)) t 0 ≡ 0))
@@ -122,7 +121,7 @@ module _ (bytes work class : List ℕ) (c : Catalog) (k : Keying) (m : ℕ) (T :
       probing_room = omega (arith, B.inside, T.keyable.room, T.keyable.steps)
 
       -- a free slot
-      pub probing_free : get_or work (slots_at k + t) 0 ≡ 0 → Probed bytes work class c k m h key (Free t)
+      pub probing_free : get_or work (slots_at k + t) 0 ≡ 0 → Probed bytes work class c k m h key (Err t)
       probing_free z = (B.inside, λ P R Q. (B.passed P R Q, slot_at work k n t B.inside ∙ z))
 
       module _ (id : ℕ) (e : id ≡ get_or work (slots_at k + t) 0) (d : id ≡ 0 → ⊥) where
@@ -135,7 +134,7 @@ module _ (bytes work class : List ℕ) (c : Catalog) (k : Keying) (m : ℕ) (T :
         probing_class = omega (arith, d, slot_is, (T.table T.keyable.held.pack T.keyable.held.reads T.keyable.held.proper).ids t (omega (arith, B.inside, length-slots work k T.keyable.room n T.keyable.steps)))
 
         -- that has the key
-        pub probing_found : (b : Bool) → OfHeld bytes work c (λ P. b ≡ same (class_key P work class k (id - 1)) key) → b ≡ true → Probed bytes work class c k m h key (Found (id - 1))
+        pub probing_found : (b : Bool) → OfHeld bytes work c (λ P. b ≡ same (class_key P work class k (id - 1)) key) → b ≡ true → Probed bytes work class c k m h key (Ok (id - 1))
         probing_found b f t = (probing_class, λ P R Q. same_true (class_key P work class k (id - 1)) key (sym (f P R Q) ∙ t))
 
         -- or another
@@ -150,10 +149,10 @@ pub written-lent : (bytes work class : List ℕ) (c : Catalog) (s : ℕ) (key : 
 written-lent bytes work class c s key r W = λ P R Q. let z : r - 0 ≡ r = omega arith in ap (λ (j : ℕ). take j key) z ∙ W.words P R Q
 
 -- what was found for a key written out
-pub sought : (bytes work class : List ℕ) (c : Catalog) (k : Keying) (m s h : ℕ) (key : List ℕ) (a : Slot) → h ≡ hash_of (hashes_for (steps_of work c)) key
+pub sought : (bytes work class : List ℕ) (c : Catalog) (k : Keying) (m s h : ℕ) (key : List ℕ) (a : Result ℕ ℕ) → h ≡ hash_of (hashes_for (steps_of work c)) key
     → OfHeld bytes work c (λ P. key ≡ spell (key_of P class s)) → Probed bytes work class c k m h key a → Sought bytes work class c k m s a
-sought bytes work class c k m s h key (Found i) e w p = (p.0, λ P R Q. p.1 P R Q ∙ w P R Q)
-sought bytes work class c k m s h key (Free t) e w p = (
+sought bytes work class c k m s h key (Ok i) e w p = (p.0, λ P R Q. p.1 P R Q ∙ w P R Q)
+sought bytes work class c k m s h key (Err t) e w p = (
   p.0,
   λ P R Q. (
     subst (λ (x : List ℕ). Passed (slots_in work k (steps_of work c)) (class_key P work class k) x (hash_of (hashes_for (steps_of work c)) x) t) (w P R Q)

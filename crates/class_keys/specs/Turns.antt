@@ -1,4 +1,5 @@
 -- The walk over the steps: how it begins, one turn, and its state between turns.
+use Rattle.std.specs.Prelude.{Ok, Err}
 use Rattle.std.specs.Prelude.{◌≡◌, refl, true, ℕ, suc, ◌+◌, ◌*◌, ◌-◌, ◌≤◌, ◌<◌, eqb, length, get_or, set, take, drop, replicate}
 use Rattle.std.proofs.Common.{sym, ◌∙◌, arith, length-set}
 use Rattle.std.proofs.Math.Path.{subst}
@@ -27,7 +28,6 @@ use Rattle.class_keys.specs.Table.{class_key, hashes_for, steps_of, Tabled, Soug
 use Rattle.class_keys.specs.Stands.{keys_to, keys_none, Stands, Roomy, first_early, count_small, seen_small, stands_out, stands_old, stands_new}
 use Rattle.class_keys.specs.declared.classes.Keying.{Keying}
 use Rattle.class_keys.specs.declared.classes.Counts.{Counts}
-use Rattle.class_keys.specs.declared.table.Slot.TheVariants.{Found, Free}
 
 -- the first s steps have their classes
 pub record State (bytes work class : List ℕ) (c : Catalog) (k : Keying) (s : ℕ) (done : Counts) : Type 0 where
@@ -126,7 +126,7 @@ module _ (bytes work class : List ℕ) (c : Catalog) (k : Keying) (s : ℕ) (don
       among P S = bit_yes (any (eqb s) (needed P)) (λ z. d (S.marks s (omega arith) more ∙ z))
 
       -- its key is that of class i
-      module _ (i : ℕ) (f : Sought bytes work class c k done.classes s (Found i)) where
+      module _ (i : ℕ) (f : Sought bytes work class c k done.classes s (Ok i)) where
         -- the class is below the number of steps
         pub old_few : i < n
         old_few = omega (arith, f.0, St.few, St.left)
@@ -145,7 +145,7 @@ module _ (bytes work class : List ℕ) (c : Catalog) (k : Keying) (s : ℕ) (don
             (λ P R Q. let S = St.stands P R Q in stands_old P Q work class k n s done (fits P R) S St.left St.few more (among P S) i f.0 (f.1 P R Q))
 
       -- no class has its key
-      module _ (t : ℕ) (f : Sought bytes work class c k done.classes s (Free t)) where
+      module _ (t : ℕ) (f : Sought bytes work class c k done.classes s (Err t)) where
         -- the new class has its words, and a slot
         pub new-room : (done.classes ≤ k.cap) × (slots_at k + t < length work) × (done.classes < nothing) × (s < 4294967296)
         new-room = (omega (arith, St.few, St.left, St.keyable.steps), omega (arith, f.0, St.keyable.room, St.keyable.steps), omega (arith, small.0, St.few, St.left), omega (arith, small.0, St.left))

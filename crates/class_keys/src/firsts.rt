@@ -16,9 +16,8 @@ pub fn note_firsts(pack: &[u8], work: &mut [u32], c: Catalog, at: usize)
     ensures noted { Noted pack.now work.new c at }
     ensures frame { Outside at (at + length (records_of work.old c 3)) work.old work.new }
 {
-    let mut s = c.count(work, Catalog::STEPS);
-    while 0 < s {
-        s -= 1;
+    let steps = c.count(work, Catalog::STEPS);
+    for s in (0..steps).rev() {
         let n = step_judgment(pack, work, c, s).0 as usize;
         work[at + n] = s as u32;
     }

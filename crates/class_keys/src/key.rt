@@ -25,12 +25,10 @@ fn write_rule_key(
     let n = step_refs(pack, work, c, s);
     key[0] = 1;
     key[1] = step_rule(pack, work, c, s);
-    let mut i: usize = 0;
-    while i < n {
+    for i in 0..n {
         let r = step_ref(pack, work, c, s, i) as usize;
         let f = first_of(pack, work, c, at, r);
         key[i + Keying::REFS] = class[f];
-        i += 1;
     }
     n + Keying::REFS
 }

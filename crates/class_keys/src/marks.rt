@@ -10,7 +10,6 @@ ghost use Rattle.class_keys.specs.Marks.{Marked, mark_all, mark_step, mark_below
 
 use crate::cut::step_is_cut;
 use crate::firsts::first_of;
-use buffer::zero::zero_words;
 use pack_read::goal::result_step;
 use pack_read::step::{step_ref, step_refs};
 use pack_tables::catalog::Catalog;
@@ -21,12 +20,10 @@ fn mark_refs(pack: &[u8], work: &[u32], marks: &mut [u32], c: Catalog, at: usize
     ensures { OfHeld pack.now work.now c (λ P. marks.new ≡ mark_all marks.old (map (first_of P) (step_of P s).refs)) }
 {
     let n = step_refs(pack, work, c, s);
-    let mut i: usize = 0;
-    while i < n {
+    for i in 0..n {
         let r = step_ref(pack, work, c, s, i) as usize;
         let f = first_of(pack, work, c, at, r);
         marks[f] = 1;
-        i += 1;
     }
 }
 
@@ -49,9 +46,8 @@ fn mark_steps(pack: &[u8], work: &[u32], marks: &mut [u32], c: Catalog, at: usiz
     requires { Noted pack.now work.now c at × (length (records_of work.now c 4) ≤ length marks.old) }
     ensures { OfHeld pack.now work.now c (λ P. marks.new ≡ mark_below (length P.steps) P marks.old) }
 {
-    let mut s = c.count(work, Catalog::STEPS);
-    while 0 < s {
-        s -= 1;
+    let steps = c.count(work, Catalog::STEPS);
+    for s in (0..steps).rev() {
         mark_step(pack, work, marks, c, at, s);
     }
 }
@@ -62,12 +58,10 @@ fn mark_results(pack: &[u8], work: &[u32], marks: &mut [u32], c: Catalog, at: us
     ensures { OfHeld pack.now work.now c (λ P. marks.new ≡ mark_all marks.old (result_steps P)) }
 {
     let n = c.count(work, Catalog::RESULTS);
-    let mut i: usize = 0;
-    while i < n {
+    for i in 0..n {
         let s = result_step(pack, work, c, i) as usize;
         let f = first_of(pack, work, c, at, s);
         marks[f] = 1;
-        i += 1;
     }
 }
 
@@ -78,7 +72,7 @@ pub fn mark_needed(pack: &[u8], work: &[u32], marks: &mut [u32], c: Catalog, at:
     ensures frame { Outside 0 (length (records_of work.now c 4)) marks.old marks.new }
 {
     let n = c.count(work, Catalog::STEPS);
-    zero_words(&mut marks[0..n]);
+    marks[0..n].fill(0);
     mark_results(pack, work, marks, c, at);
     mark_steps(pack, work, marks, c, at);
 }

@@ -9,8 +9,7 @@ ghost use Rattle.class_keys.specs.Keyed.{KeyedWork};
 use crate::classes::{Class, Counts, Keying, begin_class, join_class};
 use crate::firsts::note_firsts;
 use crate::marks::mark_needed;
-use crate::table::{Slot, search};
-use buffer::zero::zero_words;
+use crate::table::search;
 use pack_tables::catalog::Catalog;
 
 // The slots of the probe table are free; nothing else is written.
@@ -19,7 +18,7 @@ fn clear_slots(work: &mut [u32], k: Keying, n: usize)
     ensures { Cleared work.old work.new k n }
 {
     let a = k.at + Keying::SLOTS * k.cap;
-    zero_words(&mut work[a..a + (Keying::PROBES * n + 1)]);
+    work[a..a + (Keying::PROBES * n + 1)].fill(0);
 }
 
 // First steps and marks are there, and no class yet; how many steps there are.
@@ -54,7 +53,7 @@ fn key_step(
     }
     let m = done.classes;
     match search(pack, work, class, c, k, m, s) {
-        Slot::Found(i) => {
+        Ok(i) => {
             join_class(work, k, i);
             class[s] = i as u32;
             Counts {
@@ -62,7 +61,7 @@ fn key_step(
                 needed: done.needed + 1,
             }
         }
-        Slot::Free(t) => {
+        Err(t) => {
             begin_class(work, k, m, t, s);
             class[s] = m as u32;
             Counts {
@@ -82,14 +81,12 @@ pub fn key_steps(pack: &[u8], work: &mut [u32], class: &mut [u32], c: Catalog, k
     ensures classes { Outside 0 (length (records_of work.old c 4)) class.old class.new }
 {
     let n = begin(pack, work, class, c, k);
-    let mut s: usize = 0;
     let mut done = Counts {
         classes: 0,
         needed: 0,
     };
-    while s < n {
+    for s in 0..n {
         done = key_step(pack, work, class, c, k, s, done);
-        s += 1;
     }
     done
 }

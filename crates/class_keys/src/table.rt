@@ -7,17 +7,9 @@ ghost use Rattle.class_keys.specs.Table.{class_key, Tabled, Searching, Probed, S
 
 use crate::classes::{Keying, class_first};
 use crate::key::write_key;
-use base::hash::hash_words;
+use base::hash::hash;
 use base::limit::Limit;
-use base::same::same_words;
 use pack_tables::catalog::Catalog;
-
-// Where a search for a key ends: at the class that has it, or at the first free slot.
-#[derive(Clone, Copy)]
-pub enum Slot {
-    Found(usize),
-    Free(usize),
-}
 
 // Whether class `i` of `m` has this key.
 fn has_key(
@@ -36,10 +28,10 @@ fn has_key(
     let f = class_first(work, k, i);
     let mut own = [0; Limit::PREMISES + Keying::REFS];
     let n = write_key(pack, work, class, c, k.at, f, &mut own);
-    same_words(&own[0..n], key)
+    (&own[0..n]) == key
 }
 
-// The class that has the key, or the first free slot from its hash on.
+// `Ok` is the class that has the key; where none has it, `Err` is the first free slot from its hash on.
 fn probe(
     pack: &[u8],
     work: &[u32],
@@ -49,7 +41,7 @@ fn probe(
     m: usize,
     h: usize,
     key: &[u32],
-) -> Slot
+) -> Result<usize, usize>
     requires { Searching pack.now work.now class.now c k m h key.now }
     ensures { Probed pack.now work.now class.now c k m h key.now result }
 {
@@ -58,17 +50,17 @@ fn probe(
     loop {
         let id = work[a + t];
         if id == 0 {
-            break Slot::Free(t);
+            break Err(t);
         }
         let i = (id - 1) as usize;
         if has_key(pack, work, class, c, k, m, i, key) {
-            break Slot::Found(i);
+            break Ok(i);
         }
         t += 1;
     }
 }
 
-// The same for the key of step `s`.
+// The same for the key of step `s`: `Ok` with the class that has it, `Err` with the first free slot.
 pub fn search(
     pack: &[u8],
     work: &[u32],
@@ -77,13 +69,13 @@ pub fn search(
     k: Keying,
     m: usize,
     s: usize,
-) -> Slot
+) -> Result<usize, usize>
     requires { Tabled pack.now work.now class.now c k m × (s < length (records_of work.now c 4)) }
     ensures { Sought pack.now work.now class.now c k m s result }
 {
     let mut key = [0; Limit::PREMISES + Keying::REFS];
     let n = write_key(pack, work, class, c, k.at, s, &mut key);
     let steps = c.count(work, Catalog::STEPS);
-    let h = hash_words(Keying::HASHES * steps + 1, &key[0..n]);
+    let h = hash(Keying::HASHES * steps + 1, &key[0..n]);
     probe(pack, work, class, c, k, m, h, &key[0..n])
 }

@@ -1,4 +1,5 @@
 -- All premises: what is left gives the whole.
+use Rattle.std.specs.Prelude.{Result, Ok, Err}
 use Rattle.std.specs.Prelude.{◌≡◌, List, [], ◌∷◌, ◌++◌, map, ℕ, zero, suc, ◌+◌, ◌≤◌, ◌<◌, length, get_or, set}
 use Rattle.std.proofs.Math.Path.{refl, sym, ap, subst}
 use Rattle.std.proofs.Common.{◌∙◌, arith, length-set, take-suc-set}
@@ -24,11 +25,8 @@ use Rattle.class_keys.specs.declared.classes.Counts.{Counts as KeyCounts}
 use Rattle.class_premises.specs.declared.layout.Layout.{Layout}
 use Rattle.class_premises.specs.declared.building.Building.{Building}
 use Rattle.class_premises.specs.declared.premise.Reached.{Reached}
-use Rattle.class_premises.specs.declared.premise.Taken.TheVariants as taken
 use Rattle.theory.specs.Making.Runs.{outcome-return-end}
 use Rattle.class_premises.specs.declared.premises.Ruling.{Ruling}
-use Rattle.class_premises.specs.declared.premises.Premised.{Premised}
-use Rattle.class_premises.specs.declared.premises.Premised.TheVariants.{On, Refused}
 use Rattle.class_premises.specs.Buffers.{Buffers}
 use Rattle.class_premises.specs.Given.{refs_of, takes}
 use Rattle.class_premises.specs.Next.{Here, Nexting, Nexts}
@@ -82,18 +80,18 @@ Whatever bytes work class words cells c k l st memo g env u F =
     (r : KeyCounts) (fill : ℕ) (P : Pack) (b : Built) (h : Graph) → Begun bytes work class words cells c k l r st memo fill g env u P b h → F r fill P b h
 
 -- what is answered
-abbrev pub TakesAll : List ℕ → List ℕ → List ℕ → List ℕ → List ℕ → List ℕ → List ℕ → Catalog → Keying → Layout → Store → Memo → Counts → List ℕ → Ruling → List ℕ → Premised → Type 0
-TakesAll bytes work work' class words cells cells' c k l st memo g env u instances' (On t) =
+abbrev pub TakesAll : List ℕ → List ℕ → List ℕ → List ℕ → List ℕ → List ℕ → List ℕ → Catalog → Keying → Layout → Store → Memo → Counts → List ℕ → Ruling → List ℕ → Result Reached Refusal → Type 0
+TakesAll bytes work work' class words cells cells' c k l st memo g env u instances' (Ok t) =
     Outside l.copied l.end work work'
     × Whatever bytes work class words cells c k l st memo g env u (λ r fill P b h. Done bytes work' class words cells cells' c k l r st t.memo fill t.graph env u instances' t.from t.copies P b h)
-TakesAll bytes work work' class words cells cells' c k l st memo g env u instances' (Refused z) =
+TakesAll bytes work work' class words cells cells' c k l st memo g env u instances' (Err z) =
     Whatever bytes work class words cells c k l st memo g env u (λ r fill P b h. (L : Lent) → L.graph ≡ length cells → outcome L (takes P b u (all_of P u) (refs_of P u) (start h)) ≡ refuse z)
 
 -- both of buffers that are lent and what is at hand
 abbrev pub StartingIn : Buffers → Building → Counts → List ℕ → Ruling → List ℕ → Type 0
 StartingIn B s g env u instances = Starting B.pack B.work B.class B.pattern B.graph s.catalog s.keying s.layout s.store s.memo g env u instances
 
-abbrev pub TakesAllIn : Buffers → Buffers → Building → Counts → List ℕ → Ruling → List ℕ → Premised → Type 0
+abbrev pub TakesAllIn : Buffers → Buffers → Building → Counts → List ℕ → Ruling → List ℕ → Result Reached Refusal → Type 0
 TakesAllIn B B' s g env u instances' r =
     TakesAll B.pack B.work B'.work B.class B.pattern B.graph B'.graph s.catalog s.keying s.layout s.store s.memo g env u instances' r
 
@@ -145,7 +143,7 @@ module _ (bytes before class words cells₀ : List ℕ) (c : Catalog) (k : Keyin
       length-map (step_of P u.step).refs _ ∙ (B.standing.proper.good.steps u.step B.ruled.step).refs ∙ ap (λ (n : ℕ). count (rule_of P n).premises) (sym B.ruled.rule) ∙ sym B.ruled.premises
 
   pub going_on : i < u.premises → (work' cells' : List ℕ) (t : Reached) (x : Node) → length cells' ≡ length cells
-      → Nexts bytes work work' class words cells cells' c k l st memo g env u i from copies (taken.On t x)
+      → Nexts bytes work work' class words cells cells' c k l st memo g env u i from copies (Ok (t, x))
       → Going bytes before work' class words cells₀ cells' c k l st memo₀ t.memo g₀ t.graph env u instances₀ (set instances i x.0) (i + 1) t.from t.copies
   going_on more work' cells' t x long N = record {
     outside = outside_then l.copied l.end before work work' G.outside N.0;
@@ -168,7 +166,7 @@ module _ (bytes before class words cells₀ : List ℕ) (c : Catalog) (k : Keyin
         });
   }
 
-  pub going_refused : (work' cells' : List ℕ) (z : Refusal) → Nexts bytes work work' class words cells cells' c k l st memo g env u i from copies (taken.Refused z) → TakesAll bytes before work' class words cells₀ cells' c k l st memo₀ g₀ env u instances (Refused z)
+  pub going_refused : (work' cells' : List ℕ) (z : Refusal) → Nexts bytes work work' class words cells cells' c k l st memo g env u i from copies (Err z) → TakesAll bytes before work' class words cells₀ cells' c k l st memo₀ g₀ env u instances (Err z)
   going_refused work' cells' z N r fill P b h B L e = let M = G.state r fill P b h B in sym (M.same L e) ∙ N r fill P b M.terms M.refs M.state M.here L (e ∙ sym G.many)
 
   -- no term is left
@@ -177,7 +175,7 @@ module _ (bytes before class words cells₀ : List ℕ) (c : Catalog) (k : Keyin
   none_left nil e = refl
   none_left (cons t ts) e = absurd (omega arith)
 
-  pub going_done : u.premises ≤ i → TakesAll bytes before work class words cells₀ cells c k l st memo₀ g₀ env u instances (On (record { graph = g; memo = memo; from = from; copies = copies }))
+  pub going_done : u.premises ≤ i → TakesAll bytes before work class words cells₀ cells c k l st memo₀ g₀ env u instances (Ok (record { graph = g; memo = memo; from = from; copies = copies }))
   unfolding take_premises
   going_done h = (
     G.outside,

@@ -1,4 +1,5 @@
 -- The next premise as the code asks for it: the ref and its first step are read, then the row of its class.
+use Rattle.std.specs.Prelude.{Result, Ok, Err}
 use Rattle.std.specs.Prelude.{◌≡◌, List, ℕ, ◌+◌, ◌<◌, length, get_or}
 use Rattle.std.proofs.Common.{sym, ap, ◌∙◌, subst}
 use Rattle.definition.specs.Pack.{Terms, Pack, step_of}
@@ -18,10 +19,11 @@ use Rattle.class_keys.specs.declared.classes.Counts.{Counts as KeyCounts}
 use Rattle.class_premises.specs.Takes.{row_in, Taking, TakesTo}
 use Rattle.class_premises.specs.declared.layout.Layout.{Layout}
 use Rattle.class_premises.specs.declared.premise.Premise.{Premise}
-use Rattle.class_premises.specs.declared.premise.Taken.{Taken}
-use Rattle.class_premises.specs.declared.premise.Taken.TheVariants.{On, Refused}
 use Rattle.class_premises.specs.declared.premises.Ruling.{Ruling}
 use Rattle.class_premises.specs.Next.{Here, Nexting, Nexts, ref_there, ref_record, step_there, word_there, place_there, next_taking, row_read, next-refused, next_on}
+use Rattle.base.specs.declared.id.Node.{Node as Id}
+use Rattle.class_premises.specs.declared.premise.Reached.{Reached}
+use Rattle.definition.specs.declared.Refusal.{Refusal}
 
 module _ (bytes work class words cells : List ℕ) (c : Catalog) (k : Keying) (l : Layout) (st : Store) (memo : Memo) (g : Counts) (env : List ℕ) (u : Ruling) (i from copies : ℕ)
     (N : Nexting bytes work class words cells c k l st memo g env u i from copies) where
@@ -74,16 +76,16 @@ module _ (bytes work class words cells : List ℕ) (c : Catalog) (k : Keying) (l
             (next_taking bytes work class words cells c k l N.counts st memo N.fill g env u i from copies N.pack N.built N.terms N.refs N.state N.here N.more)
 
         -- what it comes to
-        pub premise_says : (work' cells' : List ℕ) (t : Taken) → length cells' ≡ length cells → TakesTo bytes work work' class words cells cells' c l st g env (with row) t
+        pub premise_says : (work' cells' : List ℕ) (t : Result (Reached × Id) Refusal) → length cells' ≡ length cells → TakesTo bytes work work' class words cells cells' c l st g env (with row) t
             → Nexts bytes work work' class words cells cells' c k l st memo g env u i from copies t
-        premise_says work' cells' (On t x) long T = (
+        premise_says work' cells' (Ok (t, x)) long T = (
           T.0,
           λ r fill P b ts refs ps H.
               let d = e ∙ row_read bytes work class words cells c k l r st memo fill g env u i from copies P b ts refs ps H N.more f (first_is r fill P b ts refs ps H) in
               next_on bytes work class words cells c k l r st memo fill g env u i from copies P b ts refs ps H N.more work' cells' t x long
-              (subst (λ (n : ℕ). TakesTo bytes work work' class words cells cells' c l st g env (with n) (On t x)) d T),
+              (subst (λ (n : ℕ). TakesTo bytes work work' class words cells cells' c l st g env (with n) (Ok (t, x))) d T),
         )
-        premise_says work' cells' (Refused z) long T = λ r fill P b ts refs ps H.
+        premise_says work' cells' (Err z) long T = λ r fill P b ts refs ps H.
             let d = e ∙ row_read bytes work class words cells c k l r st memo fill g env u i from copies P b ts refs ps H N.more f (first_is r fill P b ts refs ps H) in
             next-refused bytes work class words cells c k l r st memo fill g env u i from copies P b ts refs ps H N.more work' cells' z
-            (subst (λ (n : ℕ). TakesTo bytes work work' class words cells cells' c l st g env (with n) (Refused z)) d T)
+            (subst (λ (n : ℕ). TakesTo bytes work work' class words cells cells' c l st g env (with n) (Err z)) d T)

@@ -1,4 +1,5 @@
 -- An instance and a copy unified in the graph's table, and the copy's variables noted behind it.
+use Rattle.std.specs.Prelude.{Result, Ok, Err}
 use Rattle.std.specs.Prelude.{◌≡◌, List, ◌++◌, ℕ, ◌+◌, ◌-◌, ◌≤◌, ◌<◌, length}
 use Rattle.std.proofs.Common.{sym, ap, ap₂, ◌∙◌, subst, arith}
 use Rattle.std.proofs.Math.Option.{none, some}
@@ -8,7 +9,6 @@ use Rattle.base.specs.Part.{part, put, part_at, length_part, part-put-before}
 use Rattle.base.specs.Outside.{Outside, outside_then, outside_wider, part-behind}
 use Rattle.definition.specs.declared.Refusal.TheVariants.{Clash as Clashes}
 use Rattle.graph.specs.declared.graph.Graph.{Graph as Counts}
-use Rattle.graph_unify.specs.declared.unify.Outcome.TheVariants.{Joined, Clash as Unlike}
 use Rattle.graph.specs.Cells.{rows_end, Shows, SameRows, shows_rows, Unchanged}
 use Rattle.graph.specs.Stack.{pairs_end}
 use Rattle.theory.specs.Unification.Inner.{Inner}
@@ -17,10 +17,11 @@ use Rattle.graph_unify.specs.Unifies.{Unifies}
 use Rattle.class_premises.specs.declared.layout.Layout.{Layout}
 use Rattle.class_premises.specs.declared.premise.Premise.{Premise}
 use Rattle.class_premises.specs.declared.premise.Fresh.{Fresh}
-use Rattle.class_premises.specs.declared.premise.Taken.{Taken}
-use Rattle.class_premises.specs.declared.premise.Taken.TheVariants.{On, Refused}
 use Rattle.class_premises.specs.Layout.{table_in, copies_at, copies_end}
 use Rattle.class_premises.specs.Noted.{said, Room, Notes}
+use Rattle.base.specs.declared.id.Node.{Node as Id}
+use Rattle.class_premises.specs.declared.premise.Reached.{Reached}
+use Rattle.definition.specs.declared.Refusal.{Refusal}
 
 -- the words of a copy's variables
 abbrev pub variables_in : List ℕ → Layout → ℕ → List ℕ
@@ -49,11 +50,11 @@ pub record Noted (work work' cells : List ℕ) (l : Layout) (n copies k : ℕ) :
   pub many : k ≡ copies + length (said (variables_in work l n))
 
 -- what is answered: the two unified in whatever graph is held, and the variables noted; or that they clash
-abbrev pub JoinsTo : List ℕ → List ℕ → List ℕ → Layout → Counts → Premise → Fresh → ℕ → ℕ → Taken → Type 0
-JoinsTo work work' cells l g p f x to (On t z) =
+abbrev pub JoinsTo : List ℕ → List ℕ → List ℕ → Layout → Counts → Premise → Fresh → ℕ → ℕ → Result (Reached × Id) Refusal → Type 0
+JoinsTo work work' cells l g p f x to (Ok (t, z)) =
     (t.graph ≡ g) × (t.memo ≡ f.memo) × (z.0 ≡ x) × (t.from ≡ to) × Noted work work' cells l f.variables p.copies t.copies
     × ((h : Graph) → Shows cells (table_in work l) g h → Inner h → (h' : Graph) × ((unify h x f.node.0).graph ≡ some h') × Shows cells (table_in work' l) g h' × Inner h')
-JoinsTo work work' cells l g p f x to (Refused z) = (z ≡ Clashes p.step) × ((h : Graph) → Shows cells (table_in work l) g h → Inner h → (unify h x f.node.0).graph ≡ none)
+JoinsTo work work' cells l g p f x to (Err z) = (z ≡ Clashes p.step) × ((h : Graph) → Shows cells (table_in work l) g h → Inner h → (unify h x f.node.0).graph ≡ none)
 
 -- rows that stand ahead of what was written are as they were
 pub rows_outside : (work work' cells : List ℕ) (l : Layout) (a e : ℕ) → Outside a e work work' → l.graph + rows_end cells ≤ a → l.graph + rows_end cells ≤ l.end → l.end ≤ length work → SameRows cells (table_in work l) (table_in work' l)
@@ -124,10 +125,10 @@ module _ (work cells : List ℕ) (l : Layout) (g : Counts) (x y n copies : ℕ) 
           subst (λ (t : List ℕ). SameRows cells t (table_in work' l)) table-back
           (rows_outside back work' cells l (l.graph + copies_at cells + copies) (l.graph + copies_at cells + k) N.0 (omega arith) (omega (arith, J.table)) (omega (arith, J.inside, back_outside.long)))
 
-      pub joins_on : (m : ℕ) → Unifies cells (table_in work l) table' g x y (Joined m) → (h : Graph) → Shows cells (table_in work l) g h → Inner h → (h' : Graph) × ((unify h x y).graph ≡ some h') × Shows cells (table_in work' l) g h' × Inner h'
+      pub joins_on : (m : ℕ) → Unifies cells (table_in work l) table' g x y (Ok m) → (h : Graph) → Shows cells (table_in work l) g h → Inner h → (h' : Graph) × ((unify h x y).graph ≡ some h') × Shows cells (table_in work' l) g h' × Inner h'
       joins_on m W h S I =
           let u = W.0 h S I in
           (u.0, ap (λ (v : Unified). v.graph) u.1, shows_rows cells table' (table_in work' l) g u.0 rows u.2, u.3)
 
-pub joins_clash : (work cells : List ℕ) (l : Layout) (g : Counts) (x y m : ℕ) (table' : List ℕ) → Unifies cells (table_in work l) table' g x y (Unlike m) → (h : Graph) → Shows cells (table_in work l) g h → Inner h → (unify h x y).graph ≡ none
+pub joins_clash : (work cells : List ℕ) (l : Layout) (g : Counts) (x y m : ℕ) (table' : List ℕ) → Unifies cells (table_in work l) table' g x y (Err m) → (h : Graph) → Shows cells (table_in work l) g h → Inner h → (unify h x y).graph ≡ none
 joins_clash work cells l g x y m table' W h S I = ap (λ (v : Unified). v.graph) (W.0 h S I)

@@ -1,4 +1,5 @@
 -- A premise's instance put into the graph and unified with a copy.
+use Rattle.std.specs.Prelude.{Some, None, Result, Ok, Err}
 use Rattle.std.specs.Prelude.{◌≡◌, ◌⊎◌, ℕ, ◌+◌, ◌*◌, ◌≤◌, ◌<◌, get_or}
 use Rattle.std.proofs.Math.Path.{refl, ap}
 use Rattle.std.proofs.Common.{sym, ap₂, ◌∙◌, subst, inl, inr, arith, length-append}
@@ -23,7 +24,6 @@ use Rattle.pack_read.specs.Reads.{Reads}
 use Rattle.pack_read.specs.Held.{Proper, Held, OfHeld}
 use Rattle.pack_read.specs.Clause.{Spelt, SpeltAll}
 use Rattle.graph.specs.declared.graph.Graph.{Graph as Counts}
-use Rattle.graph.specs.declared.graph.Pushed.TheVariants.{At, Short as Full}
 use Rattle.graph.specs.Cells.{rows_end, nodes_few, Shows, cells-more}
 use Rattle.graph.specs.Pushes.{cells_shown}
 use Rattle.theory.specs.Unification.Inner.{Inner}
@@ -32,11 +32,11 @@ use Rattle.term_instantiate.specs.Building.{Spells, Asked, Instantiates}
 use Rattle.class_premises.specs.declared.layout.Layout.{Layout}
 use Rattle.class_premises.specs.declared.premise.Premise.{Premise}
 use Rattle.class_premises.specs.declared.premise.Fresh.{Fresh}
-use Rattle.class_premises.specs.declared.premise.Taken.{Taken}
-use Rattle.class_premises.specs.declared.premise.Taken.TheVariants.{On, Refused}
 use Rattle.class_premises.specs.Layout.{place_of, table_in, copies_at, copies_end}
 use Rattle.class_premises.specs.Noted.{said}
 use Rattle.class_premises.specs.Joins.{variables_in, copies_in, Joining, Noted, JoinsTo}
+use Rattle.class_premises.specs.declared.premise.Reached.{Reached}
+use Rattle.definition.specs.declared.Refusal.{Refusal}
 
 -- the term whose words are the rule's from the premise's first on
 abbrev pub SpellsAt : Pack → Premise → Term → Type 0
@@ -79,11 +79,11 @@ pub record Met (work' cells cells' : List ℕ) (l : Layout) (g' : Counts) (env :
   pub room : cells_of (instantiate t env h).graph ≤ length cells
 
 -- what is answered: it is refused by a clash, or for want of cells
-abbrev pub MeetsTo : List ℕ → List ℕ → List ℕ → List ℕ → List ℕ → Catalog → Layout → Counts → List ℕ → Premise → Fresh → Taken → Type 0
-MeetsTo bytes work work' cells cells' c l g env p f (On t x) =
+abbrev pub MeetsTo : List ℕ → List ℕ → List ℕ → List ℕ → List ℕ → Catalog → Layout → Counts → List ℕ → Premise → Fresh → Result (Reached × Node) Refusal → Type 0
+MeetsTo bytes work work' cells cells' c l g env p f (Ok (t, x)) =
     (t.memo ≡ f.memo) × Noted work work' cells l f.variables p.copies t.copies × (g.nodes ≤ t.graph.nodes)
     × Says bytes work cells c l g env p (λ a h. Met work' cells cells' l t.graph env p.from x.0 f.node.0 t.from a h)
-MeetsTo bytes work work' cells cells' c l g env p f (Refused z) =
+MeetsTo bytes work work' cells cells' c l g env p f (Err z) =
     ((z ≡ Clashes p.step) × Says bytes work cells c l g env p (λ a h. ((meets a env h f.node.0).graph ≡ none) × (cells_of (instantiate a env h).graph ≤ length cells)))
     ⊎ ((z ≡ TooShort 3) × Says bytes work cells c l g env p (λ a h. length cells < cells_of (instantiate a env h).graph))
 
@@ -159,11 +159,11 @@ module _ (bytes work cells : List ℕ) (c : Catalog) (l : Layout) (g : Counts) (
     }
 
     -- there is no room for it
-    pub meets_short : (work₁ cells' : List ℕ) → Instantiates bytes work work₁ cells cells' c (place_of l p.rule p.vars) g env p.from to Full → MeetsTo bytes work work₁ cells cells' c l g env p f (Refused (TooShort 3))
+    pub meets_short : (work₁ cells' : List ℕ) → Instantiates bytes work work₁ cells cells' c (place_of l p.rule p.vars) g env p.from to None → MeetsTo bytes work work₁ cells cells' c l g env p f (Err (TooShort 3))
     meets_short work₁ cells' I = inr (refl, λ P R Q t S h H J b. I P R Q t (spells_to P R Q t S) h H J b)
 
     -- it is there
-    module _ (x : Node) (g' : Counts) (work₁ cells' : List ℕ) (I : Instantiates bytes work work₁ cells cells' c (place_of l p.rule p.vars) g env p.from to (At x g')) (long : length cells' ≡ length cells) where
+    module _ (x : Node) (g' : Counts) (work₁ cells' : List ℕ) (I : Instantiates bytes work work₁ cells cells' c (place_of l p.rule p.vars) g env p.from to (Some (x, g'))) (long : length cells' ≡ length cells) where
       outside : Outside l.graph (l.graph + rows_end cells) work work₁
       outside = I.0
 
@@ -215,8 +215,8 @@ module _ (bytes work cells : List ℕ) (c : Catalog) (l : Layout) (g : Counts) (
       fits : (t : Term) (h : Graph) → Shows cells' (table_in work₁ l) g' (instantiate t env h).graph → cells_of (instantiate t env h).graph ≤ length cells
       fits t h H = omega (arith, cells_shown cells' (table_in work₁ l) g' (instantiate t env h).graph H, H.laid.fits, long)
 
-      pub meets-joined : (work' : List ℕ) (r : Taken) → JoinsTo work₁ work' cells' l g' p f x.0 to r → MeetsTo bytes work work' cells cells' c l g env p f r
-      meets-joined work' (On r z) J =
+      pub meets-joined : (work' : List ℕ) (r : Result (Reached × Node) Refusal) → JoinsTo work₁ work' cells' l g' p f x.0 to r → MeetsTo bytes work work' cells cells' c l g env p f r
+      meets-joined work' (Ok (r, z)) J =
           let e = J.0 in (
             J.1,
             noted-same work' r.copies J.4,
@@ -235,7 +235,7 @@ module _ (bytes work cells : List ℕ) (c : Catalog) (l : Layout) (g : Counts) (
                   room = fits t h G.1;
                 },
           )
-      meets-joined work' (Refused z) J =
+      meets-joined work' (Err z) J =
           inl (
             J.0,
             λ P R Q t S h H I' b.

@@ -1,4 +1,5 @@
 -- The premises that are left while one after the other is taken.
+use Rattle.std.specs.Prelude.{Result, Ok, Err}
 use Rattle.std.specs.Prelude.{◌≡◌, refl, Bool, List, [], ◌∷◌, ◌++◌, ℕ, zero, suc, ◌+◌, ◌*◌, ◌≤◌, ◌<◌, drop}
 use Rattle.std.proofs.Common.{sym, ap₂, ◌∙◌, subst, inl, inr, drop-cons, get_or-take}
 use Rattle.std.proofs.Math.Path.{ap}
@@ -54,8 +55,6 @@ use Rattle.class_premises.specs.Takes.{conclusion_in, count_in, flex_in, Row, pl
 use Rattle.class_premises.specs.declared.layout.Layout.{Layout}
 use Rattle.class_premises.specs.declared.premise.Premise.{Premise}
 use Rattle.class_premises.specs.declared.premise.Reached.{Reached}
-use Rattle.class_premises.specs.declared.premise.Taken.{Taken}
-use Rattle.class_premises.specs.declared.premise.Taken.TheVariants.{On, Refused}
 use Rattle.class_premises.specs.declared.building.Building.{Building}
 use Rattle.class_premises.specs.Buffers.{Buffers}
 use Rattle.class_premises.specs.Rows.{row_within, row-conclusion, row_count, row-marks}
@@ -111,18 +110,18 @@ abbrev pub Whatever : List ℕ → List ℕ → List ℕ → List ℕ → List �
 Whatever bytes work class words cells c k l st memo g env u i from copies F =
     (r : KeyCounts) (fill : ℕ) (P : Pack) (b : Built) (ts : Terms) (refs : List ℕ) (ps : Premises) → Here bytes work class words cells c k l r st memo fill g env u i from copies P b ts refs ps → F r fill P b ts refs ps
 
-abbrev pub Nexts : List ℕ → List ℕ → List ℕ → List ℕ → List ℕ → List ℕ → List ℕ → Catalog → Keying → Layout → Store → Memo → Counts → List ℕ → Ruling → ℕ → ℕ → ℕ → Taken → Type 0
-Nexts bytes work work' class words cells cells' c k l st memo g env u i from copies (On t x) =
+abbrev pub Nexts : List ℕ → List ℕ → List ℕ → List ℕ → List ℕ → List ℕ → List ℕ → Catalog → Keying → Layout → Store → Memo → Counts → List ℕ → Ruling → ℕ → ℕ → ℕ → Result (Reached × Id) Refusal → Type 0
+Nexts bytes work work' class words cells cells' c k l st memo g env u i from copies (Ok (t, x)) =
     Outside l.copied l.end work work'
     × Whatever bytes work class words cells c k l st memo g env u i from copies (λ r fill P b ts refs ps. Next bytes work' class words cells cells' c k l r st t.memo fill t.graph env u i x.0 t.from t.copies P b ts refs ps)
-Nexts bytes work work' class words cells cells' c k l st memo g env u i from copies (Refused z) =
+Nexts bytes work work' class words cells cells' c k l st memo g env u i from copies (Err z) =
     Whatever bytes work class words cells c k l st memo g env u i from copies (λ r fill P b ts refs ps. (L : Lent) → L.graph ≡ length cells → outcome L (takes P b u ts refs ps) ≡ refuse z)
 
 -- both of buffers that are lent, what is at hand and what is reached
 abbrev pub NextingIn : Buffers → Building → Reached → List ℕ → Ruling → ℕ → Type 0
 NextingIn B s t env u i = Nexting B.pack B.work B.class B.pattern B.graph s.catalog s.keying s.layout s.store t.memo t.graph env u i t.from t.copies
 
-abbrev pub NextsIn : Buffers → Buffers → Building → Reached → List ℕ → Ruling → ℕ → Taken → Type 0
+abbrev pub NextsIn : Buffers → Buffers → Building → Reached → List ℕ → Ruling → ℕ → Result (Reached × Id) Refusal → Type 0
 NextsIn B B' s t env u i r =
     Nexts B.pack B.work B'.work B.class B.pattern B.graph B'.graph s.catalog s.keying s.layout s.store t.memo t.graph env u i t.from t.copies r
 
@@ -366,7 +365,7 @@ module _ (bytes work class words cells : List ℕ) (c : Catalog) (k : Keying) (l
       ap (outcome L) takes_are
       ∙ takes_clash P b u F.term F.rest first (drop (suc i) (refs_of P u)) ps L (omega (arith, h.1, cells_are)) (ap (λ (v : Unified). v.graph) (sym joined_are) ∙ h.0)
 
-  pub next-refused : (work' cells' : List ℕ) (z : Refusal) → TakesTo bytes work work' class words cells cells' c l st g env p (Refused z) → (L : Lent) → L.graph ≡ length cells → outcome L (takes P b u ts refs ps) ≡ refuse z
+  pub next-refused : (work' cells' : List ℕ) (z : Refusal) → TakesTo bytes work work' class words cells cells' c l st g env p (Err z) → (L : Lent) → L.graph ≡ length cells → outcome L (takes P b u ts refs ps) ≡ refuse z
   next-refused work' cells' z (inl T) L e = next_clash T.1 L e ∙ ap refuse (sym T.0)
   next-refused work' cells' z (inr T) L e = next_crowded T.1 L e ∙ ap refuse (sym T.0)
 
@@ -388,7 +387,7 @@ module _ (bytes work class words cells : List ℕ) (c : Catalog) (k : Keying) (l
       let same = unify-same inst.graph inst.at (copied fresh.nodes x.conclusion) h j in
       below_more (length fresh.graph) (length h) (in_order (up_to (length x.flex)) fresh.variables) (omega (arith, same.long, instantiate_longer F.term (up_to u.vars) fresh.graph)) (copy_order_below b.store x.flex ps.graph x.conclusion (up_to (length x.flex)))
 
-  pub next_on : (work' cells' : List ℕ) (t : Reached) (y : Id) → length cells' ≡ length cells → TakesTo bytes work work' class words cells cells' c l st g env p (On t y)
+  pub next_on : (work' cells' : List ℕ) (t : Reached) (y : Id) → length cells' ≡ length cells → TakesTo bytes work work' class words cells cells' c l st g env p (Ok (t, y))
       → Next bytes work' class words cells cells' c k l r st t.memo fill t.graph env u i y.0 t.from t.copies P b ts refs ps
   next_on work' cells' t y long T =
       let h : Took work work' class words cells cells' l st t.graph env p y.0 t.from t.copies F.term ps.graph = says T.4 in

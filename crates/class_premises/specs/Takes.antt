@@ -1,4 +1,5 @@
 -- One premise as a whole: a fresh copy of its ref's conclusion, then the instance unified with it.
+use Rattle.std.specs.Prelude.{Option, Some, None, Result, Ok, Err}
 use Rattle.std.specs.Prelude.{◌≡◌, refl, ◌⊎◌, Bool, List, ◌++◌, ℕ, ◌+◌, ◌*◌, ◌-◌, ◌≤◌, ◌<◌, length, get_or, take, drop}
 use Rattle.std.proofs.Common.{sym, ap, ap₂, ◌∙◌, subst, inl, inr, arith}
 use Rattle.std.proofs.Math.Option.{none, some}
@@ -28,12 +29,8 @@ use Rattle.theory.specs.Unification.Inner.{Inner}
 use Rattle.graph.specs.Inner.{HoldsInner, many-nodes}
 use Rattle.theory.specs.Copies.Terms.{Patterns}
 use Rattle.term_copy.specs.Held.{Given, Made, Copies}
-use Rattle.term_copy.specs.declared.copy.Copied.TheVariants as answers
-use Rattle.term_copy.specs.declared.copy.Copied.{Copied}
 use Rattle.class_premises.specs.declared.layout.Layout.{Layout}
 use Rattle.class_premises.specs.declared.premise.Premise.{Premise}
-use Rattle.class_premises.specs.declared.premise.Taken.{Taken}
-use Rattle.class_premises.specs.declared.premise.Taken.TheVariants.{On, Refused}
 use Rattle.class_premises.specs.declared.building.Building.{Building}
 use Rattle.class_premises.specs.Buffers.{Buffers}
 use Rattle.class_premises.specs.Layout.{copying_of, index_in, memo_in, table_in, copies_at, Laid}
@@ -41,6 +38,8 @@ use Rattle.class_premises.specs.Noted.{said}
 use Rattle.class_premises.specs.Copied.{copied_inside, copy-longer, copy_variables, in_order_few, in_order_said}
 use Rattle.class_premises.specs.Joins.{variables_in, copies_in}
 use Rattle.class_premises.specs.Meets.{SpellsAt, Meeting, meets, MeetsTo, instantiate_cells}
+use Rattle.class_premises.specs.declared.premise.Reached.{Reached}
+use Rattle.definition.specs.declared.Refusal.{Refusal}
 
 -- where the row of step f's class stands
 abbrev pub row_in : (work class : List ℕ) (l : Layout) (f : ℕ) → ℕ
@@ -72,7 +71,7 @@ pub record Copying (work class words cells : List ℕ) (l : Layout) (st : Store)
   pub stands : Row class words cells st row
 
 -- what is answered
-abbrev pub CopiesTo : List ℕ → List ℕ → List ℕ → List ℕ → List ℕ → List ℕ → Layout → Store → Counts → ℕ → Copied → Type 0
+abbrev pub CopiesTo : List ℕ → List ℕ → List ℕ → List ℕ → List ℕ → List ℕ → Layout → Store → Counts → ℕ → Option (Id × Counts × Memo) → Type 0
 CopiesTo work work' class words cells cells' l st g row r = Copies work work' words cells cells' (flex_in class row) (copying_of l) st g (conclusion_in class row) r
 
 -- what is asked of a premise: a pack held, one of its terms, a graph that has the rule's variables, and the row of its ref's class
@@ -139,18 +138,18 @@ abbrev pub Crowded : List ℕ → List ℕ → List ℕ → List ℕ → List �
 Crowded bytes work class words cells c l st g env p = Says bytes work cells c l g env p (λ t h. length cells < cells_of (placed_in class words st p.row env t h))
 
 -- what is answered
-abbrev pub TakesTo : List ℕ → List ℕ → List ℕ → List ℕ → List ℕ → List ℕ → List ℕ → Catalog → Layout → Store → Counts → List ℕ → Premise → Taken → Type 0
-TakesTo bytes work work' class words cells cells' c l st g env p (On t x) =
+abbrev pub TakesTo : List ℕ → List ℕ → List ℕ → List ℕ → List ℕ → List ℕ → List ℕ → Catalog → Layout → Store → Counts → List ℕ → Premise → Result (Reached × Id) Refusal → Type 0
+TakesTo bytes work work' class words cells cells' c l st g env p (Ok (t, x)) =
     Outside l.copied l.end work work' × Remembers (memo_in work' l) t.memo × (t.copies ≤ t.graph.nodes) × (g.nodes ≤ t.graph.nodes)
     × Says bytes work cells c l g env p (λ a h. Took work work' class words cells cells' l st t.graph env p x.0 t.from t.copies a h)
-TakesTo bytes work work' class words cells cells' c l st g env p (Refused z) =
+TakesTo bytes work work' class words cells cells' c l st g env p (Err z) =
     ((z ≡ Clashes p.step) × Clashing bytes work class words cells c l st g env p) ⊎ ((z ≡ TooShort 3) × Crowded bytes work class words cells c l st g env p)
 
 -- both of buffers that are lent, and what is at hand
 abbrev pub TakingIn : Buffers → Building → Memo → Counts → List ℕ → Premise → Type 0
 TakingIn B s memo g env p = Taking B.pack B.work B.class B.pattern B.graph s.catalog s.layout s.store memo g env p
 
-abbrev pub TakesIn : Buffers → Buffers → Building → Counts → List ℕ → Premise → Taken → Type 0
+abbrev pub TakesIn : Buffers → Buffers → Building → Counts → List ℕ → Premise → Result (Reached × Id) Refusal → Type 0
 TakesIn B B' s g env p r = TakesTo B.pack B.work B'.work B.class B.pattern B.graph B'.graph s.catalog s.layout s.store g env p r
 
 -- the marks are as many as the row says
@@ -186,7 +185,7 @@ module _ (bytes work class words cells : List ℕ) (c : Catalog) (l : Layout) (s
   taking_copying = record { laid = T.laid; stored = T.stored; patterns = T.patterns; remembers = T.remembers; graph = (T.graph, T.shows, T.inner); stands = T.stands }
 
   -- the copy alone has too many cells
-  pub takes-full : (work₁ cells₁ : List ℕ) → CopiesTo work work₁ class words cells cells₁ l st g p.row answers.Short → TakesTo bytes work work₁ class words cells cells₁ c l st g env p (Refused (TooShort 3))
+  pub takes-full : (work₁ cells₁ : List ℕ) → CopiesTo work work₁ class words cells cells₁ l st g p.row None → TakesTo bytes work work₁ class words cells cells₁ c l st g env p (Err (TooShort 3))
   takes-full work₁ cells₁ C =
       inr (
         refl,
@@ -196,7 +195,7 @@ module _ (bytes work class words cells : List ℕ) (c : Catalog) (l : Layout) (s
       )
 
   -- it is there
-  module _ (y : Id) (g₁ : Counts) (memo₁ : Memo) (work₁ cells₁ : List ℕ) (C : CopiesTo work work₁ class words cells cells₁ l st g p.row (answers.At y g₁ memo₁)) (long : length cells₁ ≡ length cells) where
+  module _ (y : Id) (g₁ : Counts) (memo₁ : Memo) (work₁ cells₁ : List ℕ) (C : CopiesTo work work₁ class words cells cells₁ l st g p.row (Some (y, g₁, memo₁))) (long : length cells₁ ≡ length cells) where
     outside : Outside l.copied (l.graph + rows_end cells) work work₁
     outside = C.2
 
@@ -274,8 +273,8 @@ module _ (bytes work class words cells : List ℕ) (c : Catalog) (l : Layout) (s
     equal_node : (h : Graph) (H : Shows cells (table_in work l) g h) (I : Inner h) (t : Term) → meets t env (fresh_in class words st p.row h).graph y.0 ≡ joined_in class words st p.row env t h
     equal_node h H I t = ap (λ (z : ℕ). meets t env (fresh_in class words st p.row h).graph z) (made h H I).node
 
-    counted-met : (work' cells' : List ℕ) (r : Taken) → MeetsTo bytes work₁ work' cells₁ cells' c l g₁ env p (record { node = y; variables = count_in class p.row; memo = memo₁ }) r → TakesTo bytes work work' class words cells cells' c l st g env p r
-    counted-met work' cells' (On r x) M =
+    counted-met : (work' cells' : List ℕ) (r : Result (Reached × Id) Refusal) → MeetsTo bytes work₁ work' cells₁ cells' c l g₁ env p (record { node = y; variables = count_in class p.row; memo = memo₁ }) r → TakesTo bytes work work' class words cells cells' c l st g env p r
+    counted-met work' cells' (Ok (r, x)) M =
         let N = M.1 in
         let at : l.graph + copies_at cells₁ ≡ l.graph + copies_at cells = ap (λ (m : ℕ). l.graph + (11 * m + 7)) long in (
           outside_then l.copied l.end work work₁ work'
@@ -298,14 +297,14 @@ module _ (bytes work class words cells : List ℕ) (c : Catalog) (l : Layout) (s
                 copies = ap (λ (a : ℕ). part a r.copies work') (sym at) ∙ N.list ∙ ap₂ (λ (a : ℕ) (ys : List ℕ). part a p.copies work₁ ++ ys) at (words_say h H I) ∙ ap (λ (xs : List ℕ). xs ++ in_order (up_to n) (fresh_in class words st p.row h).variables) copies_same;
               },
         )
-    counted-met work' cells' (Refused z) (inl M) =
+    counted-met work' cells' (Err z) (inl M) =
         inl (
           M.0,
           λ P R Q t S h H I b.
               let m = M.1 P (reads_now P R) Q t S (fresh_in class words st p.row h).graph (made h H I).shows (made h H I).inner (env-below h H I b) in
               (ap (λ (u : Unified). u.graph) (sym (equal_node h H I t)) ∙ m.0, omega (arith, m.1, long)),
         )
-    counted-met work' cells' (Refused z) (inr M) =
+    counted-met work' cells' (Err z) (inr M) =
         inr (
           M.0,
           λ P R Q t S h H I b.
@@ -318,5 +317,5 @@ module _ (bytes work class words cells : List ℕ) (c : Catalog) (l : Layout) (s
       pub taking_meeting : Meeting bytes work₁ cells₁ c l g₁ env p (record { node = y; variables = n; memo = memo₁ })
       taking_meeting = subst (λ (m : ℕ). Meeting bytes work₁ cells₁ c l g₁ env p (record { node = y; variables = m; memo = memo₁ })) (sym counted) counted_meeting
 
-      pub takes-met : (work' cells' : List ℕ) (r : Taken) → MeetsTo bytes work₁ work' cells₁ cells' c l g₁ env p (record { node = y; variables = n; memo = memo₁ }) r → TakesTo bytes work work' class words cells cells' c l st g env p r
+      pub takes-met : (work' cells' : List ℕ) (r : Result (Reached × Id) Refusal) → MeetsTo bytes work₁ work' cells₁ cells' c l g₁ env p (record { node = y; variables = n; memo = memo₁ }) r → TakesTo bytes work work' class words cells cells' c l st g env p r
       takes-met work' cells' r M = counted-met work' cells' r (subst (λ (m : ℕ). MeetsTo bytes work₁ work' cells₁ cells' c l g₁ env p (record { node = y; variables = m; memo = memo₁ }) r) counted M)

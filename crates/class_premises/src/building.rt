@@ -4,7 +4,6 @@ ghost use Rattle.class_premises.specs.Buffers.{onward};
 
 use crate::layout::Layout;
 use class_keys::classes::Keying;
-use definition::Refusal;
 use memo::memo::Memo;
 use pack_tables::catalog::Catalog;
 use store::nodes::Store;
@@ -42,26 +41,14 @@ impl Counted {
     };
 }
 
-// What is at hand then, and what figures count; or why a class is not made.
-#[derive(Clone, Copy)]
-pub enum ClassMade {
-    Made(Building, Counted),
-    Refused(Refusal),
-}
-
 // The same places with another store and memo, filled further.
 pub fn go_on(s: Building, store: Store, memo: Memo, fill: usize) -> Building
     ensures { result ≡ onward s store memo fill }
 {
-    let catalog = s.catalog;
-    let keying = s.keying;
-    let layout = s.layout;
     Building {
-        catalog: catalog,
-        keying: keying,
-        layout: layout,
-        store: store,
-        memo: memo,
-        fill: fill,
+        store,
+        memo,
+        fill,
+        ..s
     }
 }

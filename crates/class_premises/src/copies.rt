@@ -21,10 +21,8 @@ pub fn note_copies(work: &mut [u32], from: usize, n: usize, to: usize, noted: us
     ensures { Notes work.old work.new from n to noted result }
 {
     let mut on = noted;
-    let mut k: usize = 0;
-    while k < n {
+    for k in 0..n {
         on = note_copy(work, from + k, to, on);
-        k += 1;
     }
     on
 }

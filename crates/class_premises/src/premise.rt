@@ -10,16 +10,16 @@ use crate::layout::Layout;
 use crate::row::{Row, row_conclusion, row_variables};
 use base::id::Node;
 use definition::{Buffer, Refusal};
-use graph::graph::{Graph, Pushed};
+use graph::graph::Graph;
 use graph::places::copies_at;
-use graph_unify::unify::{Outcome, unify};
+use graph_unify::unify::unify;
 use memo::memo::Memo;
 use pack_read::rule::pass_terms;
 use pack_tables::catalog::Catalog;
 use store::nodes::Store;
-use term_copy::copy::{Copied, copy};
+use term_copy::copy::copy;
 use term_copy::node::Copying;
-use term_instantiate::terms::{Place, instantiate};
+use term_instantiate::terms::instantiate;
 use term_lift::lift::Lifted;
 
 // What the premises that are taken come to: the graph and the copies' memo as they are then, the word of the rule behind them, and how
@@ -30,13 +30,6 @@ pub struct Reached {
     pub memo: Memo,
     pub from: usize,
     pub copies: usize,
-}
-
-// What is reached with the premise, and its instance; or why it is refused.
-#[derive(Clone, Copy)]
-pub enum Taken {
-    On(Reached, Node),
-    Refused(Refusal),
 }
 
 // A step, its rule and how many variables that has; where the row of the ref's class stands in the class buffer; the word of the rule
@@ -70,27 +63,22 @@ fn join_premise(
     f: Fresh,
     x: Node,
     to: usize,
-) -> Taken
+) -> Result<(Reached, Node), Refusal>
     requires { Joining work.old cells.now l g x.0 f.node.0 f.variables p.copies }
     ensures { JoinsTo work.old work.new cells.now l g p f x.0 to result }
 {
-    let at = l.graph;
-    let end = l.end;
-    match unify(g, cells, &mut work[at..end], x, f.node) {
-        Outcome::Joined(_) => {
-            let list = at + copies_at(cells);
-            let noted = note_copies(work, l.variables, f.variables, list, p.copies);
-            let memo = f.memo;
-            let reached = Reached {
-                graph: g,
-                memo: memo,
-                from: to,
-                copies: noted,
-            };
-            Taken::On(reached, x)
-        }
-        Outcome::Clash(_) => Taken::Refused(Refusal::Clash(p.step as u64)),
-    }
+    let Ok(_) = unify(g, cells, &mut work[l.graph..l.end], x, f.node) else {
+        return Err(Refusal::Clash(p.step as u64));
+    };
+    let list = l.graph + copies_at(cells);
+    let noted = note_copies(work, l.variables, f.variables, list, p.copies);
+    let reached = Reached {
+        graph: g,
+        memo: f.memo,
+        from: to,
+        copies: noted,
+    };
+    Ok((reached, x))
 }
 
 // The premise's instance is put into the graph and unified with a copy. A refusal leaves open what work and the cells hold then.
@@ -104,24 +92,19 @@ fn meet_premise(
     env: &[u32],
     p: Premise,
     f: Fresh,
-) -> Taken
+) -> Result<(Reached, Node), Refusal>
     requires { Meeting pack.now work.old cells.old c l g env.now p f }
     ensures { MeetsTo pack.now work.old work.new cells.old cells.new c l g env.now p f result }
 {
     let to = pass_terms(pack, work, c, p.rule, p.vars, p.from, 1);
-    let place = Place {
-        rule: p.rule,
-        vars: p.vars,
-        at: l.graph,
-        end: l.end,
+    let place = l.place(p.rule, p.vars);
+    let Some((x, h)) = instantiate(pack, work, cells, c, place, g, env, p.from, to) else {
+        return Err(Refusal::Short(Buffer::GRAPH));
     };
-    match instantiate(pack, work, cells, c, place, g, env, p.from, to) {
-        Pushed::At(x, h) => join_premise(work, cells, l, h, p, f, x, to),
-        Pushed::Short => Taken::Refused(Refusal::Short(Buffer::GRAPH)),
-    }
+    join_premise(work, cells, l, h, p, f, x, to)
 }
 
-// A fresh copy of the conclusion of the class whose row stands at `row`.
+// A fresh copy of the conclusion of the class whose row stands at `row`; `None` where the cells have no room for it.
 fn copy_class(
     work: &mut [u32],
     class: &[u32],
@@ -132,7 +115,7 @@ fn copy_class(
     memo: Memo,
     g: Graph,
     row: usize,
-) -> Copied
+) -> Option<(Node, Graph, Memo)>
     requires { Reading work.old class.now words.now cells.old l st memo g row }
     ensures { CopiesTo work.old work.new class.now words.now cells.old cells.new l st g row result }
 {
@@ -164,21 +147,20 @@ pub fn take_premise(
     g: Graph,
     env: &[u32],
     p: Premise,
-) -> Taken
+) -> Result<(Reached, Node), Refusal>
     requires { TakingIn (lent pack.now class.now words.now cells.old work.old) s memo g env.now p }
     ensures { TakesIn (lent pack.now class.now words.now cells.old work.old) (lent pack.now class.now words.now cells.new work.new) s g env.now p result }
 {
     let row = p.row;
     let n = row_variables(class, row);
-    match copy_class(work, class, words, cells, s.layout, s.store, memo, g, row) {
-        Copied::At(y, h, known) => {
-            let f = Fresh {
-                node: y,
-                variables: n,
-                memo: known,
-            };
-            meet_premise(pack, work, cells, s.catalog, s.layout, h, env, p, f)
-        }
-        Copied::Short => Taken::Refused(Refusal::Short(Buffer::GRAPH)),
-    }
+    let Some((y, h, known)) = copy_class(work, class, words, cells, s.layout, s.store, memo, g, row)
+    else {
+        return Err(Refusal::Short(Buffer::GRAPH));
+    };
+    let f = Fresh {
+        node: y,
+        variables: n,
+        memo: known,
+    };
+    meet_premise(pack, work, cells, s.catalog, s.layout, h, env, p, f)
 }

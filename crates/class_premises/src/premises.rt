@@ -4,8 +4,9 @@ ghost use Rattle.class_premises.specs.Next.{NextingIn, NextsIn};
 ghost use Rattle.class_premises.specs.AllPremises.{StartingIn, TakesAllIn};
 
 use crate::building::Building;
-use crate::premise::{Premise, Reached, Taken, take_premise};
+use crate::premise::{Premise, Reached, take_premise};
 use crate::row::row_of;
+use base::id::Node;
 use class_keys::firsts::first_of;
 use definition::Refusal;
 use graph::graph::Graph;
@@ -20,13 +21,6 @@ pub struct Ruling {
     pub premises: usize,
 }
 
-// What is reached with all premises, whose words end where the rule's conclusion starts; or why one is refused.
-#[derive(Clone, Copy)]
-pub enum Premised {
-    On(Reached),
-    Refused(Refusal),
-}
-
 // Premise `i`, behind those that are taken. A refusal leaves open what work and the cells hold then.
 fn next_premise(
     pack: &[u8],
@@ -39,7 +33,7 @@ fn next_premise(
     env: &[u32],
     u: Ruling,
     i: usize,
-) -> Taken
+) -> Result<(Reached, Node), Refusal>
     requires { NextingIn (lent pack.now class.now words.now cells.old work.old) s t env.now u i }
     ensures { NextsIn (lent pack.now class.now words.now cells.old work.old) (lent pack.now class.now words.now cells.new work.new) s t env.now u i result }
 {
@@ -50,7 +44,7 @@ fn next_premise(
         step: u.step,
         rule: u.rule,
         vars: u.vars,
-        row: row,
+        row,
         from: t.from,
         copies: t.copies,
     };
@@ -70,29 +64,20 @@ pub fn take_premises(
     env: &[u32],
     u: Ruling,
     instances: &mut [u32],
-) -> Premised
+) -> Result<Reached, Refusal>
     requires { StartingIn (lent pack.now class.now words.now cells.old work.old) s g env.now u instances.old }
     ensures { TakesAllIn (lent pack.now class.now words.now cells.old work.old) (lent pack.now class.now words.now cells.new work.new) s g env.now u instances.new result }
 {
-    let memo = s.memo;
     let mut t = Reached {
         graph: g,
-        memo: memo,
+        memo: s.memo,
         from: 0,
         copies: 0,
     };
-    let mut i: usize = 0;
-    while i < u.premises {
-        match next_premise(pack, work, class, words, cells, s, t, env, u, i) {
-            Taken::On(more, x) => {
-                instances[i] = x.0;
-                t = more;
-                i += 1;
-            }
-            Taken::Refused(x) => {
-                return Premised::Refused(x);
-            }
-        }
+    for i in 0..u.premises {
+        let (more, x) = next_premise(pack, work, class, words, cells, s, t, env, u, i)?;
+        instances[i] = x.0;
+        t = more;
     }
-    Premised::On(t)
+    Ok(t)
 }

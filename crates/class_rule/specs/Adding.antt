@@ -1,4 +1,5 @@
 -- A class behind its premises: its conclusion and the copies' variables read back, then its row.
+use Rattle.std.specs.Prelude.{Result, Ok, Err}
 use Rattle.std.specs.Prelude.{◌≡◌, refl, Bool, true, false, List, [], ◌∷◌, ◌++◌, ℕ, suc, ◌+◌, ◌*◌, ◌-◌, ◌≤◌, ◌<◌, length, get_or}
 use Rattle.std.proofs.Math.Path.{sym, subst}
 use Rattle.std.proofs.Common.{ap, ◌∙◌, inl, inr, arith, length-append}
@@ -47,8 +48,6 @@ use Rattle.class_premises.specs.declared.layout.Layout.{Layout}
 use Rattle.class_premises.specs.declared.premises.Ruling.{Ruling}
 use Rattle.class_premises.specs.declared.premise.Reached.{Reached}
 use Rattle.class_premises.specs.declared.building.Building.{Building}
-use Rattle.class_premises.specs.declared.building.ClassMade.{ClassMade}
-use Rattle.class_premises.specs.declared.building.ClassMade.TheVariants.{Made, Refused}
 use Rattle.class_premises.specs.Buffers.{Buffers, handed}
 use Rattle.class_premises.specs.Standing.{Standing, standing_cells}
 use Rattle.class_premises.specs.Added.{built_with, add_short_patterns, add_short_row, add_fine}
@@ -57,18 +56,15 @@ use Rattle.class_premises.specs.Grown.{Grown, grown-count, grown-counted, grown-
 use Rattle.term_readback.specs.Asked.{graph_long}
 use Rattle.class_conclude.specs.Entries.{renamed}
 use Rattle.class_conclude.specs.Beyond.{valued_beyond}
-use Rattle.class_conclude.specs.Concludes.{Here, Concluding, Concludes}
+use Rattle.class_conclude.specs.Concludes.{Here, Concluding, GraphShort, PatternsShort, Concludes}
 use Rattle.class_conclude.specs.Concludes as concluded
 use Rattle.class_conclude.specs.declared.conclude.Ending.{Ending}
 use Rattle.class_conclude.specs.declared.conclude.Concluded.{Concluded}
-use Rattle.class_conclude.specs.declared.conclude.Conclusion.TheVariants as conclusion
-use Rattle.class_conclude.specs.declared.conclude.Conclusion.{Conclusion}
 use Rattle.class_solve.specs.Stages.{top_of, conclusion_of, entries_of, class_of, rest}
 use Rattle.class_solve.specs.Valuing.{Valued-as}
-use Rattle.class_rule.specs.declared.rule.Ended.TheVariants as ended
-use Rattle.class_rule.specs.Ended.{ended_as, EndsAs, ends_as}
 use Rattle.class_rule.specs.Marks.{Numbered as Marks, Writing, Writes, writes_row}
 use Rattle.class_rule.specs.Done.{Few, Done, Refused as RefusedRun}
+use Rattle.class_premises.specs.declared.building.Counted.{Counted}
 
 -- ---- what is asked and answered
 -- the premises have their values, and class i is the next
@@ -95,14 +91,14 @@ Whatever bytes work class words cells c k l st memo g env u from copies fill i F
     → F r P b (rest P b u.rule u.vars ps Z.valued.values)
 
 -- what `add_class` answers
-abbrev pub Adds : List ℕ → List ℕ → List ℕ → List ℕ → List ℕ → List ℕ → List ℕ → List ℕ → List ℕ → Catalog → Keying → Layout → Store → Memo → Counts → List ℕ → Ruling → ℕ → ℕ → ℕ → ℕ → ClassMade → Type 0
-Adds bytes work class words cells work' class' words' cells' c k l st memo g env u from copies fill i (Made s' f) =
+abbrev pub Adds : List ℕ → List ℕ → List ℕ → List ℕ → List ℕ → List ℕ → List ℕ → List ℕ → List ℕ → Catalog → Keying → Layout → Store → Memo → Counts → List ℕ → Ruling → ℕ → ℕ → ℕ → ℕ → Result (Building × Counted) Refusal → Type 0
+Adds bytes work class words cells work' class' words' cells' c k l st memo g env u from copies fill i (Ok (s', f)) =
     (s' ≡ handed c k l s'.store s'.memo s'.fill)
     × Whatever bytes work class words cells c k l st memo g env u from copies fill i (λ r P b run. Done class words cells bytes work' class' words' cells' c k l r s'.store s'.memo s'.fill f P b run)
     × (words' ≡ written (nodes words' s'.store) words)
     × Outside l.rows l.end work work'
     × Outside fill s'.fill class class'
-Adds bytes work class words cells work' class' words' cells' c k l st memo g env u from copies fill i (Refused z) =
+Adds bytes work class words cells work' class' words' cells' c k l st memo g env u from copies fill i (Err z) =
     Whatever bytes work class words cells c k l st memo g env u from copies fill i (λ r P b run. RefusedRun class words cells run z)
 
 -- both of buffers that are lent, what is at hand and what is reached
@@ -110,7 +106,7 @@ abbrev pub AddingIn : Buffers → Building → Reached → List ℕ → Ruling �
 AddingIn B s t env u i =
     Adding B.pack B.work B.class B.pattern B.graph s.catalog s.keying s.layout s.store t.memo t.graph env u t.from t.copies s.fill i
 
-abbrev pub AddsIn : Buffers → Buffers → Building → Reached → List ℕ → Ruling → ℕ → ClassMade → Type 0
+abbrev pub AddsIn : Buffers → Buffers → Building → Reached → List ℕ → Ruling → ℕ → Result (Building × Counted) Refusal → Type 0
 AddsIn B B' s t env u i r =
     Adds B.pack B.work B.class B.pattern B.graph B'.work B'.class B'.pattern B'.graph s.catalog s.keying s.layout s.store t.memo t.graph env u t.from t.copies s.fill i r
 
@@ -217,14 +213,14 @@ module _ (bytes work class words cells : List ℕ) (c : Catalog) (k : Keying) (l
         (subst (λ (e : List ℕ). F e (nodes words st) (copies_in work cells l copies)) H.env_is x))
 
     -- the cells have no room
-    full : (work₁ words₁ cells₁ : List ℕ) → Concludes bytes work words cells work₁ words₁ cells₁ c l st g env ending conclusion.ShortGraph → RefusedRun class words cells (rest P b u.rule u.vars ps Z.valued.values) (Short 3)
-    full work₁ words₁ cells₁ C L e =
+    full : GraphShort bytes work words cells c l st g env ending → RefusedRun class words cells (rest P b u.rule u.vars ps Z.valued.values) (Short 3)
+    full C L e =
         let h = by_definition (λ v s xs. length cells < cells_of (concluded.top_of (rule_of P u.rule).conclusion v ps.graph).graph) (C P (rule_of P u.rule).conclusion ps.graph vs here) in
         rest_short P b u.rule u.vars ps vs L (omega (arith, h, e.cells_long))
 
     -- the words have none
-    short : (work₁ words₁ cells₁ : List ℕ) → Concludes bytes work words cells work₁ words₁ cells₁ c l st g env ending conclusion.ShortPatterns → RefusedRun class words cells (rest P b u.rule u.vars ps Z.valued.values) (Short 2)
-    short work₁ words₁ cells₁ C L e =
+    short : PatternsShort bytes work words cells c l st g env ending → RefusedRun class words cells (rest P b u.rule u.vars ps Z.valued.values) (Short 2)
+    short C L e =
         let t = (rule_of P u.rule).conclusion in
         let h = by_definition
         (λ v s xs. (cells_of (concluded.top_of t v ps.graph).graph ≤ length cells) × (length words < length (pattern_words (concluded.entries_of P t v ps.graph vs s xs).state.store)))
@@ -234,7 +230,7 @@ module _ (bytes work class words cells : List ℕ) (c : Catalog) (k : Keying) (l
 
     -- ---- when it was read
     module _ (work₁ words₁ cells₁ : List ℕ) (g₁ : Counts) (st₁ : Store) (q : Concluded) (more-words : length words₁ ≡ length words) (more-cells : length cells₁ ≡ length cells)
-        (C : Concludes bytes work words cells work₁ words₁ cells₁ c l st g env ending (conclusion.Read g₁ st₁ q)) where
+        (C : Concludes bytes work words cells work₁ words₁ cells₁ c l st g env ending (Ok (g₁, st₁, q))) where
       -- the class
       abbrev x : Class
       x = class_of P b u.rule u.vars ps Z.valued.values
@@ -411,19 +407,13 @@ module _ (bytes work class words cells : List ℕ) (c : Catalog) (k : Keying) (l
     }
 
     -- the cells have no room, or the words have none
-    short_of : (work₁ words₁ cells₁ work' class' words' cells' : List ℕ) (z : Refusal) → EndsAs bytes work words cells work₁ words₁ cells₁ c l st g env ending (ended.Refused z)
-        → Adds bytes work class words cells work' class' words' cells' c k l st memo g env u from copies fill i (Refused z)
-    short_of work₁ words₁ cells₁ work' class' words' cells' z (inl C) r P b refs ps Z L e = full r P b refs ps Z work₁ words₁ cells₁ C.1 L e ∙ ap refuse (sym C.0)
-    short_of work₁ words₁ cells₁ work' class' words' cells' z (inr C) r P b refs ps Z L e = short r P b refs ps Z work₁ words₁ cells₁ C.1 L e ∙ ap refuse (sym C.0)
-
-    pub adds-refused : (work₁ words₁ cells₁ work' class' words' cells' : List ℕ) (m : Conclusion) (z : Refusal) → ended_as m ≡ ended.Refused z → Concludes bytes work words cells work₁ words₁ cells₁ c l st g env ending m
-        → Adds bytes work class words cells work' class' words' cells' c k l st memo g env u from copies fill i (Refused z)
-    adds-refused work₁ words₁ cells₁ work' class' words' cells' m z e C =
-        short_of work₁ words₁ cells₁ work' class' words' cells' z
-        (subst (EndsAs bytes work words cells work₁ words₁ cells₁ c l st g env ending) e (ends_as bytes work words cells work₁ words₁ cells₁ c l st g env ending m C))
+    pub adds-refused : (work₁ words₁ cells₁ work' class' words' cells' : List ℕ) (z : Refusal) → Concludes bytes work words cells work₁ words₁ cells₁ c l st g env ending (Err z)
+        → Adds bytes work class words cells work' class' words' cells' c k l st memo g env u from copies fill i (Err z)
+    adds-refused work₁ words₁ cells₁ work' class' words' cells' z (inl C) r P b refs ps Z L e = full r P b refs ps Z C.1 L e ∙ ap refuse (sym C.0)
+    adds-refused work₁ words₁ cells₁ work' class' words' cells' z (inr C) r P b refs ps Z L e = short r P b refs ps Z C.1 L e ∙ ap refuse (sym C.0)
 
     module _ (work₁ words₁ cells₁ : List ℕ) (g₁ : Counts) (st₁ : Store) (q : Concluded) (more-words : length words₁ ≡ length words) (more-cells : length cells₁ ≡ length cells)
-        (C : Concludes bytes work words cells work₁ words₁ cells₁ c l st g env ending (conclusion.Read g₁ st₁ q)) where
+        (C : Concludes bytes work words cells work₁ words₁ cells₁ c l st g env ending (Ok (g₁, st₁, q))) where
       -- the rows end within the class buffer, and its variables are few
       pub adding_few : (fill ≤ length class) × (q.numbered ≤ length cells) × (length cells < nothing)
       adding_few =
@@ -431,7 +421,7 @@ module _ (bytes work class words cells : List ℕ) (c : Catalog) (k : Keying) (l
           (fill_fits K.counts K.pack K.built K.refs K.state K.solved work₁ words₁ cells₁ g₁ st₁ q more-words more-cells C, R.numbered, K.solved.valued.here.shows.laid.small)
 
       -- there is no room for the row
-      pub adds-full-rows : (work' class' words' cells' : List ℕ) → length class - fill < 3 + q.numbered → Adds bytes work class words cells work' class' words' cells' c k l st memo g env u from copies fill i (Refused (Short 1))
+      pub adds-full-rows : (work' class' words' cells' : List ℕ) → length class - fill < 3 + q.numbered → Adds bytes work class words cells work' class' words' cells' c k l st memo g env u from copies fill i (Err (Short 1))
       adds-full-rows work' class' words' cells' h r P b refs ps Z = full-rows r P b refs ps Z work₁ words₁ cells₁ g₁ st₁ q more-words more-cells C h
 
       module _ (h : 3 + q.numbered ≤ length class - fill) where
@@ -441,7 +431,7 @@ module _ (bytes work class words cells : List ℕ) (c : Catalog) (k : Keying) (l
 
         -- the class is made
         pub adds : (work₂ class₂ : List ℕ) (flex : ℕ) → Writes work₁ class work₂ class₂ cells₁ k l g₁ fill i q.pattern.0 q.numbered flex
-            → Adds bytes work class words cells work₂ class₂ words₁ cells₁ c k l st memo g env u from copies fill i (Made (handed c k l st₁ memo (fill + 3 + q.numbered)) (record { vars = q.numbered; flex = flex; fixed = q.fixed; entries = q.entries; renamings = q.renamings }))
+            → Adds bytes work class words cells work₂ class₂ words₁ cells₁ c k l st memo g env u from copies fill i (Ok ((handed c k l st₁ memo (fill + 3 + q.numbered)), (record { vars = q.numbered; flex = flex; fixed = q.fixed; entries = q.entries; renamings = q.renamings })))
         adds work₂ class₂ flex W = (
           refl,
           (λ r P b refs ps Z. done r P b refs ps Z work₁ words₁ cells₁ g₁ st₁ q more-words more-cells C h work₂ class₂ flex W),

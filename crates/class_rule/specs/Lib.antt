@@ -3,6 +3,5 @@ pub mod Flex
 pub mod Marks
 -- The classes of rules, made: what is asked, and what is answered.
 pub mod Done
-pub mod Ended
 pub mod Adding
 pub mod Making

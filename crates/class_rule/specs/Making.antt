@@ -1,4 +1,5 @@
 -- A rule's class made, as the definition makes it.
+use Rattle.std.specs.Prelude.{Result, Ok, Err}
 use Rattle.std.specs.Prelude.{◌≡◌, List, ℕ, ◌-◌, ◌≤◌, ◌<◌, length, take, drop}
 use Rattle.std.proofs.Common.{sym, ap, ◌∙◌, subst, arith}
 use Rattle.definition.specs.Pack.{Pack}
@@ -21,16 +22,14 @@ use Rattle.class_premises.specs.declared.layout.Layout.{Layout}
 use Rattle.class_premises.specs.declared.premises.Ruling.{Ruling}
 use Rattle.class_premises.specs.declared.premise.Reached.{Reached}
 use Rattle.class_premises.specs.declared.building.Building.{Building}
-use Rattle.class_premises.specs.declared.building.ClassMade.{ClassMade}
-use Rattle.class_premises.specs.declared.building.ClassMade.TheVariants.{Made, Refused}
 use Rattle.class_premises.specs.Buffers.{Buffers, handed}
 use Rattle.class_premises.specs.Given.{Ruled}
 use Rattle.class_premises.specs.Standing.{Standing}
 use Rattle.class_solve.specs.Stages.{rest, staged, staged_is}
 use Rattle.class_solve.specs.Solves.{Solving, Ready, Solves, Refuses}
-use Rattle.class_solve.specs.declared.solve.Solved.TheVariants as solve
 use Rattle.class_rule.specs.Done.{Done, Refused as RefusedRun, done-same, refused-same}
 use Rattle.class_rule.specs.Adding.{Solved, Adding, Adds}
+use Rattle.class_premises.specs.declared.building.Counted.{Counted}
 
 -- ---- what is asked and answered
 -- what stands at entry: class i is the next, and the step makes it
@@ -68,14 +67,14 @@ abbrev pub RefusedBy : List ℕ → List ℕ → List ℕ → List ℕ → List 
 RefusedBy bytes work class words cells c k l st memo u fill i x = Whatever bytes work class words cells c k l st memo u fill i (λ r P b. RefusedRun class words cells (rule_run P b u) x)
 
 -- what `make_rule` answers
-abbrev pub Makes : List ℕ → List ℕ → List ℕ → List ℕ → List ℕ → List ℕ → List ℕ → List ℕ → List ℕ → Catalog → Keying → Layout → Store → Memo → Ruling → ℕ → ℕ → ClassMade → Type 0
-Makes bytes work class words cells work' class' words' cells' c k l st memo u fill i (Made s' f) =
+abbrev pub Makes : List ℕ → List ℕ → List ℕ → List ℕ → List ℕ → List ℕ → List ℕ → List ℕ → List ℕ → Catalog → Keying → Layout → Store → Memo → Ruling → ℕ → ℕ → Result (Building × Counted) Refusal → Type 0
+Makes bytes work class words cells work' class' words' cells' c k l st memo u fill i (Ok (s', f)) =
     (s' ≡ handed c k l s'.store s'.memo s'.fill)
     × Whatever bytes work class words cells c k l st memo u fill i (λ r P b. Done class words cells bytes work' class' words' cells' c k l r s'.store s'.memo s'.fill f P b (rule_run P b u))
     × (words' ≡ written (nodes words' s'.store) words)
     × Outside l.rows l.end work work'
     × Outside fill s'.fill class class'
-Makes bytes work class words cells work' class' words' cells' c k l st memo u fill i (Refused z) = RefusedBy bytes work class words cells c k l st memo u fill i z
+Makes bytes work class words cells work' class' words' cells' c k l st memo u fill i (Err z) = RefusedBy bytes work class words cells c k l st memo u fill i z
 
 -- both of buffers that are lent and what is at hand
 abbrev pub MakingIn : Buffers → Building → Ruling → ℕ → Type 0
@@ -84,7 +83,7 @@ MakingIn B s u i = Making B.pack B.work B.class B.pattern B.graph s.catalog s.ke
 abbrev pub DerivingIn : Buffers → Building → List ℕ → Ruling → List ℕ → ℕ → Type 0
 DerivingIn B s env u instances i = Deriving B.pack B.work B.class B.pattern B.graph s.catalog s.keying s.layout s.store s.memo env u instances s.fill i
 
-abbrev pub MakesIn : Buffers → Buffers → Building → Ruling → ℕ → ClassMade → Type 0
+abbrev pub MakesIn : Buffers → Buffers → Building → Ruling → ℕ → Result (Building × Counted) Refusal → Type 0
 MakesIn B B' s u i r =
     Makes B.pack B.work B.class B.pattern B.graph B'.work B'.class B'.pattern B'.graph s.catalog s.keying s.layout s.store s.memo u s.fill i r
 
@@ -131,7 +130,7 @@ module _ (bytes work class words cells : List ℕ) (c : Catalog) (k : Keying) (l
   makes_refused x R r P b A L e = ap (outcome L) (run_is P b u A.ruled) ∙ R r fill P b A.standing A.ruled L e.cells_long
 
   -- they are solved
-  module _ (t : Reached) (work₁ cells₁ : List ℕ) (more-cells : length cells₁ ≡ length cells) (X : Solves bytes work work₁ class words cells cells₁ c k l st memo env u (solve.On t)) where
+  module _ (t : Reached) (work₁ cells₁ : List ℕ) (more-cells : length cells₁ ≡ length cells) (X : Solves bytes work work₁ class words cells cells₁ c k l st memo env u (Ok t)) where
     -- what is left to do
     ready : (r : KeyCounts) (P : Pack) (b : Built) → Asks bytes work class words cells c k l r st memo u fill i P b → Ready bytes work₁ class words cells cells₁ c k l r st t.memo fill t.graph env u t.from t.copies P b
     ready r P b A = X.1 r fill P b A.standing A.ruled
@@ -161,10 +160,10 @@ module _ (bytes work class words cells : List ℕ) (c : Catalog) (k : Keying) (l
         (F r P b (ready r P b A).refs (ready r P b A).state (solved r P b A))
 
     -- so the class is made, or not
-    pub makes : (work' class' words' cells' : List ℕ) (m : ClassMade) → Adds bytes work₁ class words cells₁ work' class' words' cells' c k l st t.memo t.graph env u t.from t.copies fill i m
+    pub makes : (work' class' words' cells' : List ℕ) (m : Result (Building × Counted) Refusal) → Adds bytes work₁ class words cells₁ work' class' words' cells' c k l st t.memo t.graph env u t.from t.copies fill i m
         → Makes bytes work class words cells work' class' words' cells' c k l st memo u fill i m
     unfolding solved
-    makes work' class' words' cells' (Made s' f) A = (
+    makes work' class' words' cells' (Ok (s', f)) A = (
       A.0,
       (λ r P b Q.
           let R = ready r P b Q in
@@ -175,4 +174,4 @@ module _ (bytes work class words cells : List ℕ) (c : Catalog) (k : Keying) (l
           outside_then l.rows l.end work work₁ work' (outside_wider l.copied l.end l.rows l.end work work₁ (omega (arith, S.rows, S.laid.index)) (omega arith) X.0) A.3),
       A.4,
     )
-    makes work' class' words' cells' (Refused z) A = refused z A
+    makes work' class' words' cells' (Err z) A = refused z A

@@ -10,9 +10,7 @@ pub fn flex_mark(work: &[u32], cells: &[u32], l: Layout, g: Graph, x: Node) -> u
     requires { FlexAsked work.now cells.now l g x.0 }
     ensures { MarkOf work.now cells.now l g x.0 result }
 {
-    let a = l.graph;
-    let e = l.end;
-    if g.is_flexible(cells, &work[a..e], x) {
+    if g.is_flexible(cells, &work[l.graph..l.end], x) {
         return 1;
     }
     0

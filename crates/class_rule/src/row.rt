@@ -25,13 +25,11 @@ fn put_flexes(
 {
     let numbers = l.graph + numbers_at(cells);
     let mut flex: usize = 0;
-    let mut j: usize = 0;
-    while j < n {
+    for j in 0..n {
         let x = Node(work[numbers + j]);
         let mark = flex_mark(work, cells, l, g, x);
         class[at + j] = mark;
         flex += mark as usize;
-        j += 1;
     }
     flex
 }

@@ -1,4 +1,5 @@
 -- A rule's variables opened and its premises solved: what the definition's run comes to behind the values.
+use Rattle.std.specs.Prelude.{Some, None, Result, Ok, Err}
 use Rattle.std.specs.Prelude.{◌≡◌, refl, ℕ, ◌+◌, ◌-◌, ◌≤◌, ◌<◌}
 use Rattle.std.proofs.Common.{sym, ◌∙◌, subst, arith}
 use mathlib.Core.List.{List}
@@ -26,7 +27,6 @@ use Rattle.graph.specs.Cells.{rows_end}
 use Rattle.graph.specs.Pushes.{cells_shown}
 use Rattle.pack_read.specs.Clause.{premises_spelt}
 use Rattle.term_instantiate.specs.Variables.{variables_of, Opening, Opens}
-use Rattle.term_instantiate.specs.declared.variables.Opened.TheVariants as opened
 use Rattle.class_keys.specs.declared.classes.Keying.{Keying}
 use Rattle.class_keys.specs.declared.classes.Counts.{Counts as KeyCounts}
 use Rattle.theory.specs.Making.FewArgs.{few_variables}
@@ -37,12 +37,9 @@ use Rattle.class_premises.specs.declared.premises.Ruling.{Ruling}
 use Rattle.class_premises.specs.declared.premise.Reached.{Reached}
 use Rattle.class_premises.specs.declared.building.Building.{Building}
 use Rattle.class_premises.specs.Buffers.{Buffers}
-use Rattle.class_premises.specs.declared.premises.Premised.TheVariants as premised
 use Rattle.class_premises.specs.Given.{Ruled, refs_of, takes}
 use Rattle.class_premises.specs.AllPremises.{start, all_of, Begun, Starting, TakesAll}
 use Rattle.class_premises.specs.Standing.{Standing, standing_held, standing_behind, standing_on, standing_cells}
-use Rattle.class_solve.specs.declared.solve.Solved.{Solved}
-use Rattle.class_solve.specs.declared.solve.Solved.TheVariants.{On, Refused}
 use Rattle.class_solve.specs.Stages.{rest, behind, staged, staged_short, staged-from, staged_on, behind_on}
 use Rattle.class_solve.specs.Valuing.{Taken, Valuing, Valued-as, Values}
 
@@ -64,25 +61,25 @@ Whatever bytes work class words cells c k l st memo g env u F =
 abbrev pub premised_run : Pack → Built → Ruling → Graph → Run Built
 premised_run P b u h = takes P b u (all_of P u) (refs_of P u) (start h) >>= behind P u.step b u.rule u.vars
 
-abbrev pub SolvesFrom : List ℕ → List ℕ → List ℕ → List ℕ → List ℕ → List ℕ → List ℕ → Catalog → Keying → Layout → Store → Memo → Counts → List ℕ → Ruling → Solved → Type 0
-SolvesFrom bytes work work' class words cells cells' c k l st memo g env u (On t) =
+abbrev pub SolvesFrom : List ℕ → List ℕ → List ℕ → List ℕ → List ℕ → List ℕ → List ℕ → Catalog → Keying → Layout → Store → Memo → Counts → List ℕ → Ruling → Result Reached Refusal → Type 0
+SolvesFrom bytes work work' class words cells cells' c k l st memo g env u (Ok t) =
     Outside l.copied l.end work work'
     × Whatever bytes work class words cells c k l st memo g env u (λ r fill P b h. From bytes work' class words cells cells' c k l r st t.memo fill t.graph env u t.from t.copies P b h)
-SolvesFrom bytes work work' class words cells cells' c k l st memo g env u (Refused z) =
+SolvesFrom bytes work work' class words cells cells' c k l st memo g env u (Err z) =
     Whatever bytes work class words cells c k l st memo g env u (λ r fill P b h. (L : Lent) → L.graph ≡ length cells → outcome L (premised_run P b u h) ≡ refuse z)
 
 -- the same of buffers that are lent and what is at hand
-abbrev pub SolvesFromIn : Buffers → Buffers → Building → Counts → List ℕ → Ruling → Solved → Type 0
+abbrev pub SolvesFromIn : Buffers → Buffers → Building → Counts → List ℕ → Ruling → Result Reached Refusal → Type 0
 SolvesFromIn B B' s g env u r =
     SolvesFrom B.pack B.work B'.work B.class B.pattern B.graph B'.graph s.catalog s.keying s.layout s.store s.memo g env u r
 
 module _ (bytes work class words cells : List ℕ) (c : Catalog) (k : Keying) (l : Layout) (st : Store) (memo : Memo) (g : Counts) (env : List ℕ) (u : Ruling) (instances : List ℕ)
     (T : Starting bytes work class words cells c k l st memo g env u instances) (work₁ cells₁ instances₁ : List ℕ) (more : length instances₁ ≡ length instances) where
-  pub from-refused : (work' cells' : List ℕ) (z : Refusal) → TakesAll bytes work work₁ class words cells cells₁ c k l st memo g env u instances₁ (premised.Refused z)
-      → SolvesFrom bytes work work' class words cells cells' c k l st memo g env u (Refused z)
+  pub from-refused : (work' cells' : List ℕ) (z : Refusal) → TakesAll bytes work work₁ class words cells cells₁ c k l st memo g env u instances₁ (Err z)
+      → SolvesFrom bytes work work' class words cells cells' c k l st memo g env u (Err z)
   from-refused work' cells' z A r fill P b h B L e = outcome_refuse L (takes P b u (all_of P u) (refs_of P u) (start h)) (behind P u.step b u.rule u.vars) z (A r fill P b h B L e)
 
-  module _ (t : Reached) (A : TakesAll bytes work work₁ class words cells cells₁ c k l st memo g env u instances₁ (premised.On t)) where
+  module _ (t : Reached) (A : TakesAll bytes work work₁ class words cells cells₁ c k l st memo g env u instances₁ (Ok t)) where
     taken : (r : KeyCounts) (fill : ℕ) (P : Pack) (b : Built) (h : Graph) → (B : Begun bytes work class words cells c k l r st memo fill g env u P b h)
         → Taken bytes work₁ class words cells₁ c k l r st t.memo fill t.graph env u instances₁ t.from t.copies P b (A.1 r fill P b h B).refs (A.1 r fill P b h B).state
     taken r fill P b h B =
@@ -94,8 +91,8 @@ module _ (bytes work class words cells : List ℕ) (c : Catalog) (k : Keying) (l
         let D = A.1 T.counts T.fill T.pack T.built T.graph T.begun in
         record { counts = T.counts; fill = T.fill; pack = T.pack; built = T.built; refs = D.refs; state = D.state; taken = taken T.counts T.fill T.pack T.built T.graph T.begun }
 
-    pub from-values : (work' : List ℕ) (s : Solved) → Values bytes work₁ work' class words cells₁ c k l st t.memo t.graph env u instances₁ t.from t.copies s → SolvesFrom bytes work work' class words cells cells₁ c k l st memo g env u s
-    from-values work' (On t') V' = (
+    pub from-values : (work' : List ℕ) (s : Result Reached Refusal) → Values bytes work₁ work' class words cells₁ c k l st t.memo t.graph env u instances₁ t.from t.copies s → SolvesFrom bytes work work' class words cells cells₁ c k l st memo g env u s
+    from-values work' (Ok t') V' = (
       outside_then l.copied l.end work work₁ work' A.0 V'.4,
       λ r fill P b h B.
           let D = A.1 r fill P b h B in
@@ -111,7 +108,7 @@ module _ (bytes work class words cells : List ℕ) (c : Catalog) (k : Keying) (l
             is = D.is;
           },
     )
-    from-values work' (Refused z) V' = λ r fill P b h B L e.
+    from-values work' (Err z) V' = λ r fill P b h B L e.
         let D = A.1 r fill P b h B in
         outcome_fine L (takes P b u (all_of P u) (refs_of P u) (start h)) (behind P u.step b u.rule u.vars) D.state (D.is L e) ∙ V' r fill P b D.refs D.state (taken r fill P b h B) L
 
@@ -145,17 +142,17 @@ abbrev pub Refuses : List ℕ → List ℕ → List ℕ → List ℕ → List �
 Refuses bytes work class words cells c k l st memo u x =
     Of bytes work class words cells c k l st memo u (λ r fill P b. (L : Lent) → L.graph ≡ length cells → outcome L (staged P u.step (keys_of P).words b u.rule u.vars) ≡ refuse x)
 
-abbrev pub Solves : List ℕ → List ℕ → List ℕ → List ℕ → List ℕ → List ℕ → List ℕ → Catalog → Keying → Layout → Store → Memo → List ℕ → Ruling → Solved → Type 0
-Solves bytes work work' class words cells cells' c k l st memo env u (On t) =
+abbrev pub Solves : List ℕ → List ℕ → List ℕ → List ℕ → List ℕ → List ℕ → List ℕ → Catalog → Keying → Layout → Store → Memo → List ℕ → Ruling → Result Reached Refusal → Type 0
+Solves bytes work work' class words cells cells' c k l st memo env u (Ok t) =
     Outside l.copied l.end work work'
     × Of bytes work class words cells c k l st memo u (λ r fill P b. Ready bytes work' class words cells cells' c k l r st t.memo fill t.graph env u t.from t.copies P b)
-Solves bytes work work' class words cells cells' c k l st memo env u (Refused z) = Refuses bytes work class words cells c k l st memo u z
+Solves bytes work work' class words cells cells' c k l st memo env u (Err z) = Refuses bytes work class words cells c k l st memo u z
 
 -- both of buffers that are lent and what is at hand
 abbrev pub SolvingIn : Buffers → Building → List ℕ → Ruling → List ℕ → Type 0
 SolvingIn B s env u instances = Solving B.pack B.work B.class B.pattern B.graph s.catalog s.keying s.layout s.store s.memo env u instances
 
-abbrev pub SolvesIn : Buffers → Buffers → Building → List ℕ → Ruling → Solved → Type 0
+abbrev pub SolvesIn : Buffers → Buffers → Building → List ℕ → Ruling → Result Reached Refusal → Type 0
 SolvesIn B B' s env u r = Solves B.pack B.work B'.work B.class B.pattern B.graph B'.graph s.catalog s.keying s.layout s.store s.memo env u r
 
 module _ (bytes work class words cells : List ℕ) (c : Catalog) (k : Keying) (l : Layout) (st : Store) (memo : Memo) (env : List ℕ) (u : Ruling) (instances : List ℕ) (Z : Solving bytes work class words cells c k l st memo env u instances) where
@@ -182,10 +179,10 @@ module _ (bytes work class words cells : List ℕ) (c : Catalog) (k : Keying) (l
       }
 
   -- there is no room for them
-  pub solves_full : (work₁ cells₁ work' cells' : List ℕ) → Opens bytes work work₁ cells cells₁ c (place_of l u.rule u.vars) opened.Short → Solves bytes work work' class words cells cells' c k l st memo env u (Refused (TooShort 3))
+  pub solves_full : (work₁ cells₁ work' cells' : List ℕ) → Opens bytes work work₁ cells cells₁ c (place_of l u.rule u.vars) None → Solves bytes work work' class words cells cells' c k l st memo env u (Err (TooShort 3))
   solves_full work₁ cells₁ work' cells' O r fill P b S R L e = staged_short P u.step (keys_of P).words b u.rule u.vars L (omega (arith, O P S.reads S.proper R.vars, e))
 
-  module _ (g : Counts) (work₁ cells₁ : List ℕ) (O : Opens bytes work work₁ cells cells₁ c (place_of l u.rule u.vars) (opened.On g)) (long : length cells₁ ≡ length cells) where
+  module _ (g : Counts) (work₁ cells₁ : List ℕ) (O : Opens bytes work work₁ cells cells₁ c (place_of l u.rule u.vars) (Some g)) (long : length cells₁ ≡ length cells) where
     outside : Outside l.graph (l.graph + rows_end cells) work work₁
     outside = O.0
 
@@ -231,8 +228,8 @@ module _ (bytes work class words cells : List ℕ) (c : Catalog) (k : Keying) (l
       room = Z.room;
     }
 
-    pub solves_from : (work' cells' : List ℕ) (s : Solved) → SolvesFrom bytes work₁ work' class words cells₁ cells' c k l st memo g env u s → Solves bytes work work' class words cells cells' c k l st memo env u s
-    solves_from work' cells' (On t) F = (
+    pub solves_from : (work' cells' : List ℕ) (s : Result Reached Refusal) → SolvesFrom bytes work₁ work' class words cells₁ cells' c k l st memo g env u s → Solves bytes work work' class words cells cells' c k l st memo env u s
+    solves_from work' cells' (Ok t) F = (
       outside_then l.copied l.end work work₁ work'
           (outside_wider l.graph (l.graph + rows_end cells) l.copied l.end work work₁ low (let S = Z.standing.placed.laid in omega (arith, S.table)) outside) F.0,
       λ r fill P b S R.
@@ -246,5 +243,5 @@ module _ (bytes work class words cells : List ℕ) (c : Catalog) (k : Keying) (l
                 ∙ behind_on P u.step (keys_of P).words b u.rule u.vars L X.state X.valued.ends X.valued.values X.valued.is;
           },
     )
-    solves_from work' cells' (Refused z) F = λ r fill P b S R L e.
+    solves_from work' cells' (Err z) F = λ r fill P b S R L e.
         staged-from P u.step (keys_of P).words b u.rule u.vars L (omega (arith, room_for r fill P b S R, e)) ∙ F r fill P b (variables_of (rule_of P u.rule).vars) (begun r fill P b S R) L (e ∙ sym long)

@@ -1,4 +1,5 @@
 -- The unified premises tested: no circle, and the refs' judgments together an instance.
+use Rattle.std.specs.Prelude.{Result, Ok, Err}
 use Rattle.std.specs.Prelude.{◌≡◌, refl, true, false, ℕ, zero, suc, ◌+◌, ◌*◌, ◌-◌, ◌≤◌, ◌<◌, get_or, take}
 use Rattle.std.proofs.Math.Path.{sym, subst}
 use Rattle.std.proofs.Common.{ap, ap₂, ◌∙◌, arith}
@@ -54,9 +55,8 @@ use Rattle.class_premises.specs.Standing.{Standing, standing_held, standing_behi
 use Rattle.class_solve.specs.AllValues.{judgments_to, Starting, GivesAll}
 use Rattle.theory.specs.Making.Values.{Grounded, valued_grounded}
 use Rattle.theory.specs.Making.Firsts.{firsts-given, judgments-given}
-use Rattle.class_solve.specs.declared.solve.Solved.{Solved}
-use Rattle.class_solve.specs.declared.solve.Solved.TheVariants.{On, Refused}
 use Rattle.class_solve.specs.Stages.{values_of, behind, behind_circle, behind_differs}
+use Rattle.definition.specs.declared.Refusal.{Refusal}
 
 -- all premises are taken
 pub record Taken (bytes work class words cells : List ℕ) (c : Catalog) (k : Keying) (l : Layout) (r : KeyCounts) (st : Store) (memo : Memo) (fill : ℕ) (g : Counts) (env : List ℕ) (u : Ruling) (instances : List ℕ) (from copies : ℕ)
@@ -92,11 +92,11 @@ Whatever bytes work class words cells c k l st memo g env u instances from copie
     (r : KeyCounts) (fill : ℕ) (P : Pack) (b : Built) (refs : List ℕ) (ps : Premises) → Taken bytes work class words cells c k l r st memo fill g env u instances from copies P b refs ps → F r fill P b refs ps
 
 -- what is answered
-abbrev pub Values : List ℕ → List ℕ → List ℕ → List ℕ → List ℕ → List ℕ → Catalog → Keying → Layout → Store → Memo → Counts → List ℕ → Ruling → List ℕ → ℕ → ℕ → Solved → Type 0
-Values bytes work work' class words cells c k l st memo g env u instances from copies (On t) =
+abbrev pub Values : List ℕ → List ℕ → List ℕ → List ℕ → List ℕ → List ℕ → Catalog → Keying → Layout → Store → Memo → Counts → List ℕ → Ruling → List ℕ → ℕ → ℕ → Result Reached Refusal → Type 0
+Values bytes work work' class words cells c k l st memo g env u instances from copies (Ok t) =
     (t.graph ≡ g) × (t.memo ≡ memo) × (t.from ≡ from) × (t.copies ≡ copies) × Outside l.copied l.end work work'
     × Whatever bytes work class words cells c k l st memo g env u instances from copies (λ r fill P b refs ps. Valued-as bytes work' class words cells c k l r st memo fill g env u from copies P b refs ps)
-Values bytes work work' class words cells c k l st memo g env u instances from copies (Refused z) =
+Values bytes work work' class words cells c k l st memo g env u instances from copies (Err z) =
     Whatever bytes work class words cells c k l st memo g env u instances from copies (λ r fill P b refs ps. (L : Lent) → outcome L (behind P u.step b u.rule u.vars ps) ≡ refuse z)
 
 -- both of buffers that are lent, what is at hand and what is reached
@@ -104,7 +104,7 @@ abbrev pub ValuingIn : Buffers → Building → Reached → List ℕ → Ruling 
 ValuingIn B s t env u instances =
     Valuing B.pack B.work B.class B.pattern B.graph s.catalog s.keying s.layout s.store t.memo t.graph env u instances t.from t.copies
 
-abbrev pub ValuesIn : Buffers → Buffers → Building → Reached → List ℕ → Ruling → List ℕ → Solved → Type 0
+abbrev pub ValuesIn : Buffers → Buffers → Building → Reached → List ℕ → Ruling → List ℕ → Result Reached Refusal → Type 0
 ValuesIn B B' s t env u instances r =
     Values B.pack B.work B'.work B.class B.pattern B.graph s.catalog s.keying s.layout s.store t.memo t.graph env u instances t.from t.copies r
 

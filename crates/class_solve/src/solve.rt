@@ -7,21 +7,13 @@ ghost use Rattle.class_solve.specs.Solves.{SolvesFromIn, SolvingIn, SolvesIn};
 use crate::values::fix_premises;
 use class_premises::building::Building;
 use class_premises::premise::Reached;
-use class_premises::premises::{Premised, Ruling, take_premises};
+use class_premises::premises::{Ruling, take_premises};
 use definition::{Buffer, Refusal};
 use graph::graph::Graph;
 use graph_unify::circle::circular;
-use term_instantiate::terms::Place;
-use term_instantiate::variables::{Opened, open_variables};
+use term_instantiate::variables::open_variables;
 use term_values::fix::Fixed;
 use term_values::values::Valued;
-
-// What is reached with all premises, whose graph has its values; or why they are refused.
-#[derive(Clone, Copy)]
-pub enum Solved {
-    On(Reached),
-    Refused(Refusal),
-}
 
 // The unified premises tested for circles, and against the judgments of the refs. A refusal leaves open what work holds then.
 fn value_premises(
@@ -35,21 +27,22 @@ fn value_premises(
     env: &[u32],
     u: Ruling,
     instances: &[u32],
-) -> Solved
+) -> Result<Reached, Refusal>
     requires { ValuingIn (lent pack.now class.now words.now cells.now work.old) s t env.now u instances.now }
     ensures { ValuesIn (lent pack.now class.now words.now cells.now work.old) (lent pack.now class.now words.now cells.now work.new) s t env.now u instances.now result }
 {
-    let at = s.layout.graph;
-    let end = s.layout.end;
-    if circular(t.graph, cells, &mut work[at..end]) {
-        return Solved::Refused(Refusal::Circle(u.step as u64));
+    if circular(t.graph, cells, &mut work[s.layout.graph..s.layout.end]) {
+        return Err(Refusal::Circle(u.step as u64));
     }
-    let v = Valued { at: at, end: end };
+    let v = Valued {
+        at: s.layout.graph,
+        end: s.layout.end,
+    };
     match fix_premises(
         pack, work, cells, s.catalog, v, t.graph, u.step, u.premises, instances,
     ) {
-        Fixed::Done => Solved::On(t),
-        Fixed::Differs => Solved::Refused(Refusal::Instance(u.step as u64)),
+        Fixed::Done => Ok(t),
+        Fixed::Differs => Err(Refusal::Instance(u.step as u64)),
     }
 }
 
@@ -66,16 +59,12 @@ fn solve_from(
     env: &[u32],
     u: Ruling,
     instances: &mut [u32],
-) -> Solved
+) -> Result<Reached, Refusal>
     requires { StartingIn (lent pack.now class.now words.now cells.old work.old) s g env.now u instances.old }
     ensures { SolvesFromIn (lent pack.now class.now words.now cells.old work.old) (lent pack.now class.now words.now cells.new work.new) s g env.now u result }
 {
-    match take_premises(pack, work, class, words, cells, s, g, env, u, instances) {
-        Premised::On(t) => {
-            value_premises(pack, work, class, words, cells, s, t, env, u, instances)
-        }
-        Premised::Refused(x) => Solved::Refused(x),
-    }
+    let t = take_premises(pack, work, class, words, cells, s, g, env, u, instances)?;
+    value_premises(pack, work, class, words, cells, s, t, env, u, instances)
 }
 
 // The premises of the step that makes a class, solved: `env` are the numbers below that of the rule's variables. A refusal leaves open
@@ -90,18 +79,13 @@ pub fn solve_premises(
     env: &[u32],
     u: Ruling,
     instances: &mut [u32],
-) -> Solved
+) -> Result<Reached, Refusal>
     requires { SolvingIn (lent pack.now class.now words.now cells.old work.old) s env.now u instances.old }
     ensures { SolvesIn (lent pack.now class.now words.now cells.old work.old) (lent pack.now class.now words.now cells.new work.new) s env.now u result }
 {
-    let place = Place {
-        rule: u.rule,
-        vars: u.vars,
-        at: s.layout.graph,
-        end: s.layout.end,
+    let place = s.layout.place(u.rule, u.vars);
+    let Some(g) = open_variables(pack, work, cells, s.catalog, place) else {
+        return Err(Refusal::Short(Buffer::GRAPH));
     };
-    match open_variables(pack, work, cells, s.catalog, place) {
-        Opened::On(g) => { solve_from(pack, work, class, words, cells, s, g, env, u, instances) }
-        Opened::Short => Solved::Refused(Refusal::Short(Buffer::GRAPH)),
-    }
+    solve_from(pack, work, class, words, cells, s, g, env, u, instances)
 }

@@ -44,15 +44,19 @@ fn fix_each(
     requires { Begun pack.now work.old cells.now c v g step n instances.now }
     ensures { GivesFrom pack.now work.old work.new cells.now c v g step n instances.now result }
 {
-    let mut i: usize = 0;
-    while i < n {
-        match fix_premise(pack, work, cells, c, v, g, step, i, Node(instances[i])) {
-            Fixed::Done => {
-                i += 1;
-            }
-            Fixed::Differs => {
-                return Fixed::Differs;
-            }
+    for i in 0..n {
+        if let Fixed::Differs = fix_premise(
+            pack,
+            work,
+            cells,
+            c,
+            v,
+            g,
+            step,
+            i,
+            Node(instances[i]),
+        ) {
+            return Fixed::Differs;
         }
     }
     Fixed::Done

@@ -1,5 +1,8 @@
-// What is right: document 01 as definitions on lists. No code; the types that code and definitions share.
+// What is right: document 01 as definitions on lists. No code but the types that code and definitions share, and a refusal's number and
+// place.
 #![tactic(auto)]
+
+pub mod table;
 
 // The refusals of document 01's table, in its order; each but the ninth with its place.
 #[derive(Clone, Copy)]

@@ -1,4 +1,5 @@
 -- What class building comes to ahead of clearing: the definition's run in the lengths lent.
+use Rattle.std.specs.Prelude.{Result, Ok, Err}
 use Rattle.std.specs.Prelude.{◌≡◌, refl, List, ℕ, ◌≤◌, ◌<◌, length, take}
 use Rattle.std.proofs.Common.{sym, ◌∙◌, arith}
 use Rattle.std.proofs.Math.Option.{none, some}
@@ -20,17 +21,16 @@ use Rattle.dock_call.specs.Opening.{room}
 use Rattle.class_rule.specs.Done.{Lends}
 use Rattle.class_build.specs.Ready.{least_room, Opened, opened}
 use Rattle.class_build.specs.Build.{Answered, Builds}
-use Rattle.class_build.specs.declared.build.Answer.{Answer as Built}
-use Rattle.class_build.specs.declared.build.Answer.TheVariants as built
+use Rattle.definition.specs.declared.Figures.{Figures}
 
 -- what the call comes to ahead of clearing
-abbrev pub Comes : List ℕ → List ℕ → List ℕ → List ℕ → List ℕ → List ℕ → List ℕ → Built → Type 0
-Comes bytes class pattern graph work class' pattern' (built.Done n m f) =
+abbrev pub Comes : List ℕ → List ℕ → List ℕ → List ℕ → List ℕ → List ℕ → List ℕ → Result (ℕ × ℕ × Figures) Refusal → Type 0
+Comes bytes class pattern graph work class' pattern' (Ok (n, m, f)) =
     (x : Classed) × (called class_run bytes (classes_lent (length bytes) (length class) (length pattern) (length graph) (length work)) ≡ fine x)
     × (take n class' ≡ class_words x.pack x.built) × (n ≤ length class')
     × (take m pattern' ≡ pattern_words x.built.store) × (m ≤ length pattern')
     × (f ≡ figures x.pack x.built)
-Comes bytes class pattern graph work class' pattern' (built.Refused r) = called class_run bytes (classes_lent (length bytes) (length class) (length pattern) (length graph) (length work)) ≡ refuse r
+Comes bytes class pattern graph work class' pattern' (Err r) = called class_run bytes (classes_lent (length bytes) (length class) (length pattern) (length graph) (length work)) ≡ refuse r
 
 -- what reading and building come to in lengths that pass
 unfoldable pub ran : List ℕ → Lent → Read Classed
@@ -46,17 +46,17 @@ pub record Spacious (bytes class pattern graph work : List ℕ) : Type 0 where
   pub cells : length graph < nothing
 
 -- what the run answers, whatever else is lent
-abbrev pub Runs : List ℕ → List ℕ → List ℕ → List ℕ → List ℕ → List ℕ → Built → Type 0
-Runs bytes class pattern graph class' pattern' (built.Done n m f) =
+abbrev pub Runs : List ℕ → List ℕ → List ℕ → List ℕ → List ℕ → List ℕ → Result (ℕ × ℕ × Figures) Refusal → Type 0
+Runs bytes class pattern graph class' pattern' (Ok (n, m, f)) =
     (x : Classed) × ((L : Lent) → Lends L class pattern graph → ran bytes L ≡ fine x)
     × (take n class' ≡ class_words x.pack x.built) × (n ≤ length class')
     × (take m pattern' ≡ pattern_words x.built.store) × (m ≤ length pattern')
     × (f ≡ figures x.pack x.built)
-Runs bytes class pattern graph class' pattern' (built.Refused r) = (L : Lent) → Lends L class pattern graph → ran bytes L ≡ refuse r
+Runs bytes class pattern graph class' pattern' (Err r) = (L : Lent) → Lends L class pattern graph → ran bytes L ≡ refuse r
 
 module _ (bytes class pattern graph : List ℕ) where
   -- a bad record is refused
-  pub runs_refused : (class' pattern' : List ℕ) (r : Refusal) → parse bytes ≡ refuse r → Runs bytes class pattern graph class' pattern' (built.Refused r)
+  pub runs_refused : (class' pattern' : List ℕ) (r : Refusal) → parse bytes ≡ refuse r → Runs bytes class pattern graph class' pattern' (Err r)
   unfolding ran
   runs_refused class' pattern' r e L l = rw (e, ran)
 
@@ -69,11 +69,11 @@ module _ (bytes class pattern graph : List ℕ) where
     unfolding ran
     run L = rw (f, ran)
 
-    pub runs_built : (class' pattern' : List ℕ) (a : Built) → Builds bytes work₁ class pattern graph class' pattern' c a → Runs bytes class pattern graph class' pattern' a
-    runs_built class' pattern' (built.Done n m g) B =
+    pub runs_built : (class' pattern' : List ℕ) (a : Result (ℕ × ℕ × Figures) Refusal) → Builds bytes work₁ class pattern graph class' pattern' c a → Runs bytes class pattern graph class' pattern' a
+    runs_built class' pattern' (Ok (n, m, g)) B =
         let A = represents_said bytes work₁ c e (Answered class pattern graph class' pattern' n m g) B P f R in
         (record { pack = P; built = A.built; roots = A.roots }, (λ L l. run L ∙ A.is L l), A.classes, A.classes_fit, A.patterns, A.patterns_fit, A.counted)
-    runs_built class' pattern' (built.Refused x) B = λ L l. run L ∙ represents_said bytes work₁ c e (λ Q. (K : Lent) → Lends K class pattern graph → outcome K (class_run Q) ≡ refuse x) B P f R L l
+    runs_built class' pattern' (Err x) B = λ L l. run L ∙ represents_said bytes work₁ c e (λ Q. (K : Lent) → Lends K class pattern graph → outcome K (class_run Q) ≡ refuse x) B P f R L l
 
 module _ (bytes class pattern graph work : List ℕ) where
   abbrev lent : Lent
@@ -83,7 +83,7 @@ module _ (bytes class pattern graph work : List ℕ) where
   lends = record { class_long = refl; words_long = refl; cells_long = refl }
 
   -- what the lengths refuse is refused
-  pub comes_refused : (class' pattern' : List ℕ) (r : Refusal) → lengths (classes_lent (length bytes) (length class) (length pattern) (length graph) (length work)) ≡ some r → Comes bytes class pattern graph work class' pattern' (built.Refused r)
+  pub comes_refused : (class' pattern' : List ℕ) (r : Refusal) → lengths (classes_lent (length bytes) (length class) (length pattern) (length graph) (length work)) ≡ some r → Comes bytes class pattern graph work class' pattern' (Err r)
   unfolding called
   comes_refused class' pattern' r e = rw (e, called)
 
@@ -94,7 +94,7 @@ module _ (bytes class pattern graph work : List ℕ) where
         let F = lengths_fit lent l in
         record { tables = room lent bytes (sym l) work refl refl; room = omega (arith, F.least); patterns = F.pattern; classes = omega (arith, F.class); cells = omega (arith, F.graph) }
 
-    pub comes_run : (class' pattern' : List ℕ) (a : Built) → Runs bytes class pattern graph class' pattern' a → Comes bytes class pattern graph work class' pattern' a
+    pub comes_run : (class' pattern' : List ℕ) (a : Result (ℕ × ℕ × Figures) Refusal) → Runs bytes class pattern graph class' pattern' a → Comes bytes class pattern graph work class' pattern' a
     unfolding called ran
-    comes_run class' pattern' (built.Done n m g) X = (X.0, rw (l, called) (X.1 lent lends), X.2, X.3, X.4, X.5, X.6)
-    comes_run class' pattern' (built.Refused r) X = rw (l, called) (X lent lends)
+    comes_run class' pattern' (Ok (n, m, g)) X = (X.0, rw (l, called) (X.1 lent lends), X.2, X.3, X.4, X.5, X.6)
+    comes_run class' pattern' (Err r) X = rw (l, called) (X lent lends)

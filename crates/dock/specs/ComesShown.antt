@@ -1,4 +1,5 @@
 -- What showing the goals comes to ahead of clearing: the definition's run in the lengths lent.
+use Rattle.std.specs.Prelude.{Result, Ok, Err}
 use Rattle.std.specs.Prelude.{◌≡◌, refl, List, ℕ, ◌≤◌, ◌<◌, length, take}
 use Rattle.std.proofs.Common.{sym, ◌∙◌, arith}
 use Rattle.std.proofs.Math.Option.{none, some}
@@ -20,8 +21,6 @@ use Rattle.dock_call.specs.Lengths.{lengths_fit}
 use Rattle.dock_call.specs.Opening.{room}
 use Rattle.text_goals.specs.Shows.{LendsText, Answered, Shows}
 use Rattle.text_goals.specs.declared.goal.Budgets.{Budgets}
-use Rattle.text_goals.specs.declared.show.Answer.{Answer}
-use Rattle.text_goals.specs.declared.show.Answer.TheVariants as shown
 use Rattle.dock.specs.Comes.{Spacious as Building}
 
 -- work has room for what the run spends, and no buffer is too long
@@ -41,10 +40,10 @@ pub record Holds (class' pattern' text' : List ℕ) (n m k : ℕ) (f : Figures) 
   pub counted : f ≡ figures x.classed.pack x.classed.built
 
 -- what the call comes to ahead of clearing
-abbrev pub Comes : (bytes class pattern graph work text class' pattern' text' : List ℕ) → Budgets → Answer → Type 0
-Comes bytes class pattern graph work text class' pattern' text' b (shown.Done n m k f) =
+abbrev pub Comes : (bytes class pattern graph work text class' pattern' text' : List ℕ) → Budgets → Result (ℕ × ℕ × ℕ × Figures) Refusal → Type 0
+Comes bytes class pattern graph work text class' pattern' text' b (Ok (n, m, k, f)) =
     (x : Shown) × (called (show_run b.form b.value) bytes (show_lent (length bytes) (length class) (length pattern) (length graph) (length work) (length text)) ≡ fine x) × Holds class' pattern' text' n m k f x
-Comes bytes class pattern graph work text class' pattern' text' b (shown.Refused r) =
+Comes bytes class pattern graph work text class' pattern' text' b (Err r) =
     called (show_run b.form b.value) bytes (show_lent (length bytes) (length class) (length pattern) (length graph) (length work) (length text)) ≡ refuse r
 
 -- what reading, building and showing come to in lengths that pass
@@ -53,13 +52,13 @@ unfolding parse outcome show_run
 ran bytes b l = elim (parse bytes) [ refuse r ↦ refuse r | fine P ↦ outcome l (show_run b.form b.value P) ]
 
 -- what the run answers, whatever else is lent
-abbrev pub Runs : (bytes class pattern graph text class' pattern' text' : List ℕ) → Budgets → Answer → Type 0
-Runs bytes class pattern graph text class' pattern' text' b (shown.Done n m k f) = (x : Shown) × ((L : Lent) → LendsText L class pattern graph text → ran bytes b L ≡ fine x) × Holds class' pattern' text' n m k f x
-Runs bytes class pattern graph text class' pattern' text' b (shown.Refused r) = (L : Lent) → LendsText L class pattern graph text → ran bytes b L ≡ refuse r
+abbrev pub Runs : (bytes class pattern graph text class' pattern' text' : List ℕ) → Budgets → Result (ℕ × ℕ × ℕ × Figures) Refusal → Type 0
+Runs bytes class pattern graph text class' pattern' text' b (Ok (n, m, k, f)) = (x : Shown) × ((L : Lent) → LendsText L class pattern graph text → ran bytes b L ≡ fine x) × Holds class' pattern' text' n m k f x
+Runs bytes class pattern graph text class' pattern' text' b (Err r) = (L : Lent) → LendsText L class pattern graph text → ran bytes b L ≡ refuse r
 
 module _ (bytes class pattern graph text : List ℕ) (b : Budgets) where
   -- a bad record is refused
-  pub runs_refused : (class' pattern' text' : List ℕ) (r : Refusal) → parse bytes ≡ refuse r → Runs bytes class pattern graph text class' pattern' text' b (shown.Refused r)
+  pub runs_refused : (class' pattern' text' : List ℕ) (r : Refusal) → parse bytes ≡ refuse r → Runs bytes class pattern graph text class' pattern' text' b (Err r)
   unfolding ran
   runs_refused class' pattern' text' r e L l = rw (e, ran)
 
@@ -69,11 +68,11 @@ module _ (bytes class pattern graph text : List ℕ) (b : Budgets) where
     unfolding ran
     run L = rw (f, ran)
 
-    pub runs_shown : (class' pattern' text' : List ℕ) (a : Answer) → Shows bytes work₁ class pattern graph text class' pattern' text' c b a → Runs bytes class pattern graph text class' pattern' text' b a
-    runs_shown class' pattern' text' (shown.Done n m k g) B =
+    pub runs_shown : (class' pattern' text' : List ℕ) (a : Result (ℕ × ℕ × ℕ × Figures) Refusal) → Shows bytes work₁ class pattern graph text class' pattern' text' c b a → Runs bytes class pattern graph text class' pattern' text' b a
+    runs_shown class' pattern' text' (Ok (n, m, k, g)) B =
         let A = represents_said bytes work₁ c e (Answered class pattern graph text class' pattern' text' b n m k g) B P f R in
         (_, (λ L l. run L ∙ A.is L l), record { classes = A.classes; classes_fit = A.classes_fit; patterns = A.patterns; patterns_fit = A.patterns_fit; bytes = A.bytes; bytes_fit = A.bytes_fit; long = A.long; counted = A.counted })
-    runs_shown class' pattern' text' (shown.Refused x) B =
+    runs_shown class' pattern' text' (Err x) B =
         λ L l. run L ∙ represents_said bytes work₁ c e (λ Q. (K : Lent) → LendsText K class pattern graph text → outcome K (show_run b.form b.value Q) ≡ refuse x) B P f R L l
 
 module _ (bytes class pattern graph work text : List ℕ) (b : Budgets) where
@@ -85,7 +84,7 @@ module _ (bytes class pattern graph work text : List ℕ) (b : Budgets) where
 
   -- what the lengths refuse is refused
   pub comes_refused : (class' pattern' text' : List ℕ) (r : Refusal) → lengths (show_lent (length bytes) (length class) (length pattern) (length graph) (length work) (length text)) ≡ some r
-      → Comes bytes class pattern graph work text class' pattern' text' b (shown.Refused r)
+      → Comes bytes class pattern graph work text class' pattern' text' b (Err r)
   unfolding called
   comes_refused class' pattern' text' r e = rw (e, called)
 
@@ -99,7 +98,7 @@ module _ (bytes class pattern graph work text : List ℕ) (b : Budgets) where
           texts = omega (arith, F.text);
         }
 
-    pub comes_run : (class' pattern' text' : List ℕ) (a : Answer) → Runs bytes class pattern graph text class' pattern' text' b a → Comes bytes class pattern graph work text class' pattern' text' b a
+    pub comes_run : (class' pattern' text' : List ℕ) (a : Result (ℕ × ℕ × ℕ × Figures) Refusal) → Runs bytes class pattern graph text class' pattern' text' b a → Comes bytes class pattern graph work text class' pattern' text' b a
     unfolding called ran
-    comes_run class' pattern' text' (shown.Done n m k g) X = (X.0, rw (l, called) (X.1 lent lends), X.2)
-    comes_run class' pattern' text' (shown.Refused r) X = rw (l, called) (X lent lends)
+    comes_run class' pattern' text' (Ok (n, m, k, g)) X = (X.0, rw (l, called) (X.1 lent lends), X.2)
+    comes_run class' pattern' text' (Err r) X = rw (l, called) (X lent lends)

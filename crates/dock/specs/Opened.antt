@@ -1,4 +1,5 @@
 -- A pack read into work, its verdict, and the step check's refusal by its parts.
+use Rattle.std.specs.Prelude.{Result}
 use Rattle.std.specs.Prelude.{◌≡◌, List, ℕ, length}
 use Rattle.std.proofs.Common.{◌∙◌}
 use Rattle.std.proofs.Math.Option.{Option, none, some}
@@ -11,14 +12,13 @@ use Rattle.definition.specs.Check.{check_lent, check_refusal}
 use Rattle.definition.specs.declared.Refusal.{Refusal}
 use Rattle.pack_reader.specs.Parsed.{Represents}
 use Rattle.dock_call.specs.Outcome.{refusal_of}
-use Rattle.dock_call.specs.declared.answer.Outcome.{Outcome}
 
 -- a pack was read into work
 abbrev pub Opened : List ℕ → List ℕ → Type 0
 Opened bytes work = (P : Pack) × (parse bytes ≡ fine P) × Represents bytes work P
 
 -- its verdict
-abbrev pub Judged : List ℕ → List ℕ → Outcome → Type 0
+abbrev pub Judged : List ℕ → List ℕ → Result (Unit {0}) Refusal → Type 0
 Judged bytes work r = (P : Pack) → parse bytes ≡ fine P → Represents bytes work P → refusal_of r ≡ verdict P
 
 -- what reading and judging come to in lengths that pass

@@ -1,4 +1,5 @@
 -- What showing the goals promises, and the laws of its parts.
+use Rattle.std.specs.Prelude.{Ok, Err}
 use Rattle.std.specs.Prelude.{◌≡◌, List, ℕ, ◌<◌, length, get_or}
 use Rattle.std.proofs.Common.{sym, subst}
 use Rattle.std.proofs.Math.Option.{some}
@@ -12,7 +13,6 @@ use Rattle.theory.specs.Principal.{DemandThreeShown}
 use Rattle.theory.proofs.DemandThree.{demand_three_shown}
 use Rattle.pack_reader.specs.Sound.{bytes-all}
 use Rattle.text_goals.specs.declared.goal.Budgets.{Budgets}
-use Rattle.text_goals.specs.declared.show.Answer.TheVariants as shown
 use Rattle.dock.specs.declared.show.ShowAnswer.{ShowAnswer}
 use Rattle.dock.specs.Classes.{padded_is, padded_zero}
 use Rattle.dock.specs.ComesShown.{Comes}
@@ -40,14 +40,14 @@ refused_with a f = record { code = a.code; place = a.place; text_len = 0; figure
 -- what is left is what the definition says
 module _ (bytes class pattern graph work text class' pattern' graph' work' text' : List ℕ) (b : Budgets) (c-long : length class' ≡ length class) (p-long : length pattern' ≡ length pattern) (g-long : length graph' ≡ length graph)
     (w-long : length work' ≡ length work) (t-long : length text' ≡ length text) where
-  left-done : (n m k : ℕ) (f : Figures) → Comes bytes class pattern graph work text class' pattern' text' b (shown.Done n m k f)
+  left-done : (n m k : ℕ) (f : Figures) → Comes bytes class pattern graph work text class' pattern' text' b (Ok (n, m, k, f))
       → left_of (done_with k f) (zeroed n class') (zeroed m pattern') (zeroed 0 graph') (zeroed 0 work') (zeroed k text') ≡ cert_show bytes b.form b.value (length class) (length pattern) (length graph) (length work) (length text)
   unfolding cert_show answered answer
   left-done n m k f C =
       let H = C.2 in
       rw (C.1, cert_show, answered, padded_is n class' _ (length class) c-long H.classes H.classes_fit, padded_is m pattern' _ (length pattern) p-long H.patterns H.patterns_fit, padded_zero graph' (length graph) g-long, padded_zero work' (length work) w-long, padded_is k text' _ (length text) t-long H.bytes H.bytes_fit, H.counted, ← H.long)
 
-  left-refused : (r : Refusal) (a : Answer) (g : Figures) → Comes bytes class pattern graph work text class' pattern' text' b (shown.Refused r) → a ≡ answer (some r) → g ≡ no_figures
+  left-refused : (r : Refusal) (a : Answer) (g : Figures) → Comes bytes class pattern graph work text class' pattern' text' b (Err r) → a ≡ answer (some r) → g ≡ no_figures
       → left_of (refused_with a g) (zeroed 0 class') (zeroed 0 pattern') (zeroed 0 graph') (zeroed 0 work') (zeroed 0 text') ≡ cert_show bytes b.form b.value (length class) (length pattern) (length graph) (length work) (length text)
   unfolding cert_show refused answer
   left-refused r a g C e h =
@@ -67,8 +67,8 @@ module _ (bytes class pattern graph work text class' pattern' graph' work' text'
         let q : left_of r class'' pattern'' graph'' work'' text'' ≡ cert_show bytes b.form b.value (length class) (length pattern) (length graph) (length work) (length text) = rw (zc, zp, zg, zw, zt) e in
         (q, subst (DemandThreeShown bytes b.form b.value (length class) (length pattern) (length graph) (length work) (length text)) (sym q) (demand_three_shown bytes (bytes-all bytes bytes-are) b.form b.value (length class) (length pattern) (length graph) (length work) (length text)))
 
-    pub promised_done : (f : Figures) → Comes bytes class pattern graph work text class' pattern' text' b (shown.Done n m k f) → Promised (done_with k f)
+    pub promised_done : (f : Figures) → Comes bytes class pattern graph work text class' pattern' text' b (Ok (n, m, k, f)) → Promised (done_with k f)
     promised_done f C = promised (done_with k f) (left-done n m k f C)
 
-    pub promised_refused : n ≡ 0 → m ≡ 0 → k ≡ 0 → (r : Refusal) (a : Answer) (g : Figures) → Comes bytes class pattern graph work text class' pattern' text' b (shown.Refused r) → a ≡ answer (some r) → g ≡ no_figures → Promised (refused_with a g)
+    pub promised_refused : n ≡ 0 → m ≡ 0 → k ≡ 0 → (r : Refusal) (a : Answer) (g : Figures) → Comes bytes class pattern graph work text class' pattern' text' b (Err r) → a ≡ answer (some r) → g ≡ no_figures → Promised (refused_with a g)
     promised_refused x y z r a g C e h = promised (refused_with a g) (rw (x, y, z) (left-refused r a g C e h))

@@ -4,7 +4,7 @@ ghost use Rattle.definition.specs.Check.{CheckLeft, cert_check};
 ghost use Rattle.dock.specs.Check.{Statement};
 
 use crate::check_outcome::check_outcome;
-use buffer::zero::zero_words_from;
+use buffer::zero::fill_from;
 use definition::Answer;
 use dock_call::answer::outcome_answer;
 
@@ -15,6 +15,6 @@ pub extern "C" fn cert_check(pack: &[u8], work: &mut [u32]) -> Answer
     ensures statement { Statement pack.now (length work.old) result }
 {
     let outcome = check_outcome(pack, work);
-    zero_words_from(work, 0);
+    fill_from(work, 0, 0);
     outcome_answer(outcome)
 }

@@ -5,9 +5,8 @@ ghost use Rattle.theory.specs.Principal.{DemandThree};
 ghost use Rattle.dock.specs.Classes.{left_of};
 
 use crate::classes_outcome::classes_outcome;
-use class_build::build::Answer as Built;
 use definition::Figures;
-use dock_call::answer::{Outcome, outcome_answer};
+use dock_call::answer::outcome_answer;
 use dock_call::leave::{clear, no_figures};
 
 // A number of document 01's table with its place, and the figures.
@@ -33,7 +32,7 @@ pub extern "C" fn cert_classes(
     ensures principal { DemandThree pack.now (length class.old) (length pattern.old) (length graph.old) (length work.old) (left_of result class.new pattern.new graph.new work.new) }
 {
     match classes_outcome(pack, class, pattern, graph, work) {
-        Built::Done(n, m, f) => {
+        Ok((n, m, f)) => {
             clear(class, pattern, graph, work, n, m);
             ClassesAnswer {
                 code: 0,
@@ -41,9 +40,9 @@ pub extern "C" fn cert_classes(
                 figures: f,
             }
         }
-        Built::Refused(r) => {
+        Err(r) => {
             clear(class, pattern, graph, work, 0, 0);
-            let a = outcome_answer(Outcome::Refused(r));
+            let a = outcome_answer(Err(r));
             ClassesAnswer {
                 code: a.code,
                 place: a.place,

@@ -1,8 +1,8 @@
 // Class building's outcome, ahead of clearing.
 ghost use Rattle.dock.specs.Comes.{Spacious, Runs, Comes};
 
-use class_build::build::{Answer as Built, build};
-use dock_call::answer::Outcome;
+use class_build::build::build;
+use definition::{Figures, Refusal};
 use dock_call::lent::{Lent, test_lengths};
 use dock_call::opening::take_pack;
 use pack_reader::read::tables;
@@ -15,17 +15,12 @@ fn run_classes(
     pattern: &mut [u32],
     graph: &mut [u32],
     work: &mut [u32],
-) -> Built
+) -> Result<(usize, usize, Figures), Refusal>
     requires { Spacious pack.now class.old pattern.old graph.old work.old }
     ensures { Runs pack.now class.old pattern.old graph.old class.new pattern.new result }
 {
-    match take_pack(pack, work) {
-        Outcome::Done => {
-            let c = tables(pack);
-            build(pack, work, class, pattern, graph, c)
-        }
-        Outcome::Refused(r) => Built::Refused(r),
-    }
+    take_pack(pack, work)?;
+    build(pack, work, class, pattern, graph, tables(pack))
 }
 
 // The lengths tested, then the run. What stands behind the words of an answer, and in all buffers behind a refusal, is the call's to
@@ -36,7 +31,7 @@ pub fn classes_outcome(
     pattern: &mut [u32],
     graph: &mut [u32],
     work: &mut [u32],
-) -> Built
+) -> Result<(usize, usize, Figures), Refusal>
     ensures { Comes pack.now class.old pattern.old graph.old work.old class.new pattern.new result }
 {
     let lent = Lent {
@@ -48,8 +43,6 @@ pub fn classes_outcome(
         text: 0,
         goals: 0,
     };
-    match test_lengths(lent) {
-        Outcome::Done => run_classes(pack, class, pattern, graph, work),
-        Outcome::Refused(r) => Built::Refused(r),
-    }
+    test_lengths(lent)?;
+    run_classes(pack, class, pattern, graph, work)
 }

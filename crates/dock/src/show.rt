@@ -5,12 +5,11 @@ ghost use Rattle.theory.specs.Principal.{DemandThreeShown};
 ghost use Rattle.dock.specs.Shown.{left_of};
 
 use crate::show_outcome::show_outcome;
-use buffer::zero::zero_bytes_from;
+use buffer::zero::fill_from;
 use definition::Figures;
-use dock_call::answer::{Outcome, outcome_answer};
+use dock_call::answer::outcome_answer;
 use dock_call::leave::{clear, no_figures};
 use text_goals::goal::Budgets;
-use text_goals::show::Answer as Shown;
 
 // A number of document 01's table with its place, how many bytes of text there are, and the figures.
 #[repr(C)]
@@ -44,9 +43,9 @@ pub extern "C" fn cert_show(
         value: value_budget,
     };
     match show_outcome(pack, class, pattern, graph, work, text, b) {
-        Shown::Done(n, m, k, f) => {
+        Ok((n, m, k, f)) => {
             clear(class, pattern, graph, work, n, m);
-            zero_bytes_from(text, k);
+            fill_from(text, k, 0);
             ShowAnswer {
                 code: 0,
                 place: 0,
@@ -54,10 +53,10 @@ pub extern "C" fn cert_show(
                 figures: f,
             }
         }
-        Shown::Refused(r) => {
+        Err(r) => {
             clear(class, pattern, graph, work, 0, 0);
-            zero_bytes_from(text, 0);
-            let a = outcome_answer(Outcome::Refused(r));
+            fill_from(text, 0, 0);
+            let a = outcome_answer(Err(r));
             ShowAnswer {
                 code: a.code,
                 place: a.place,

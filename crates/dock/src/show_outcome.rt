@@ -1,12 +1,12 @@
 // What showing the goals comes to, ahead of clearing.
 ghost use Rattle.dock.specs.ComesShown.{Spacious, Runs, Comes};
 
-use dock_call::answer::Outcome;
+use definition::{Figures, Refusal};
 use dock_call::lent::{Lent, test_lengths};
 use dock_call::opening::take_pack;
 use pack_reader::read::tables;
 use text_goals::goal::Budgets;
-use text_goals::show::{Answer as Shown, show};
+use text_goals::show::show;
 
 // The pack read, its classes built and its goals tested and shown, in a work buffer, or a part of one, that has room for what this spends.
 // What stands behind the words and the text of an answer, and in all buffers behind a refusal, is left open.
@@ -18,17 +18,12 @@ fn run_show(
     work: &mut [u32],
     text: &mut [u8],
     b: Budgets,
-) -> Shown
+) -> Result<(usize, usize, usize, Figures), Refusal>
     requires { Spacious pack.now class.old pattern.old graph.old work.old text.old }
     ensures { Runs pack.now class.old pattern.old graph.old text.old class.new pattern.new text.new b result }
 {
-    match take_pack(pack, work) {
-        Outcome::Done => {
-            let c = tables(pack);
-            show(pack, work, class, pattern, graph, text, c, b)
-        }
-        Outcome::Refused(r) => Shown::Refused(r),
-    }
+    take_pack(pack, work)?;
+    show(pack, work, class, pattern, graph, text, tables(pack), b)
 }
 
 // The lengths tested, then the run. What stands behind the words and the text of an answer, and in all buffers behind a refusal, is the
@@ -41,7 +36,7 @@ pub fn show_outcome(
     work: &mut [u32],
     text: &mut [u8],
     b: Budgets,
-) -> Shown
+) -> Result<(usize, usize, usize, Figures), Refusal>
     ensures { Comes pack.now class.old pattern.old graph.old work.old text.old class.new pattern.new text.new b result }
 {
     let lent = Lent {
@@ -53,8 +48,6 @@ pub fn show_outcome(
         text: text.len(),
         goals: 0,
     };
-    match test_lengths(lent) {
-        Outcome::Done => run_show(pack, class, pattern, graph, work, text, b),
-        Outcome::Refused(r) => Shown::Refused(r),
-    }
+    test_lengths(lent)?;
+    run_show(pack, class, pattern, graph, work, text, b)
 }

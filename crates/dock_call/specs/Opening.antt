@@ -1,4 +1,5 @@
 -- What opening a pack answers, for every pack and all lengths.
+use Rattle.std.specs.Prelude.{Result, Ok, Err}
 use Rattle.std.specs.Prelude.{◌≡◌, List, ℕ, length}
 use Rattle.std.proofs.Common.{sym, ◌∙◌, arith}
 use Rattle.std.proofs.Math.Path.{ap}
@@ -9,11 +10,9 @@ use Rattle.definition.specs.Frame.{fine, refuse}
 use Rattle.definition.specs.Parse.{parse}
 use Rattle.definition.specs.Answer.{Lent, lengths}
 use Rattle.definition.specs.declared.Refusal.{Refusal}
-use Rattle.pack_reader.specs.Parsed.{Room, Represents}
+use Rattle.pack_reader.specs.Parsed.{Room, Represents, Parses}
 use Rattle.dock_call.specs.Lengths.{lent_of, lengths_fit}
 use Rattle.dock_call.specs.declared.lent.Lent.{Lent as Given}
-use Rattle.dock_call.specs.declared.answer.Outcome.{Outcome}
-use Rattle.dock_call.specs.declared.answer.Outcome.TheVariants.{Done, Refused}
 
 -- "Order": lengths, work, the pack's first bad record
 unfoldable pub opening_refusal : Lent → List ℕ → Option Refusal
@@ -25,14 +24,19 @@ opening_refusal l pack =
     ]
 
 -- the pack is read, or its first bad record
-abbrev pub Takes : List ℕ → List ℕ → Outcome → Type 0
-Takes pack work' Done = (P : Pack) × (parse pack ≡ fine P) × Represents pack work' P
-Takes pack work' (Refused r) = parse pack ≡ refuse r
+abbrev pub Takes : List ℕ → List ℕ → Result (Unit {0}) Refusal → Type 0
+Takes pack work' (Ok tt) = (P : Pack) × (parse pack ≡ fine P) × Represents pack work' P
+Takes pack work' (Err r) = parse pack ≡ refuse r
+
+-- so it is where the reader answers
+pub takes_parsed : (pack work work' : List ℕ) (o : Result (Unit {0}) Refusal) → Parses pack work work' o → Takes pack work' o
+takes_parsed pack work work' (Ok tt) p = (p.0, p.1, p.2)
+takes_parsed pack work work' (Err r) p = p
 
 -- the lengths pass and the pack is read, or the refusal
-abbrev pub Opens : Given → List ℕ → List ℕ → Outcome → Type 0
-Opens l pack work' Done = (lengths (lent_of l) ≡ none) × (P : Pack) × (parse pack ≡ fine P) × Represents pack work' P
-Opens l pack work' (Refused r) = opening_refusal (lent_of l) pack ≡ some r
+abbrev pub Opens : Given → List ℕ → List ℕ → Result (Unit {0}) Refusal → Type 0
+Opens l pack work' (Ok tt) = (lengths (lent_of l) ≡ none) × (P : Pack) × (parse pack ≡ fine P) × Represents pack work' P
+Opens l pack work' (Err r) = opening_refusal (lent_of l) pack ≡ some r
 
 module _ (l : Lent) (pack : List ℕ) where
   -- what opening refuses, the lengths refuse, or they pass and reading the pack refuses it
@@ -66,6 +70,6 @@ module _ (l : Lent) (pack : List ℕ) where
     pack_opened P e = rw (← fit, e, opening_refusal)
 
 -- behind lengths that pass the pack is taken
-pub takes_opens : (l : Given) (pack work' : List ℕ) (o : Outcome) → lengths (lent_of l) ≡ none → Takes pack work' o → Opens l pack work' o
-takes_opens l pack work' Done fit T = (fit, T.0, T.1, T.2)
-takes_opens l pack work' (Refused r) fit T = pack_refused (lent_of l) pack (sym fit) r T
+pub takes_opens : (l : Given) (pack work' : List ℕ) (o : Result (Unit {0}) Refusal) → lengths (lent_of l) ≡ none → Takes pack work' o → Opens l pack work' o
+takes_opens l pack work' (Ok tt) fit T = (fit, T.0, T.1, T.2)
+takes_opens l pack work' (Err r) fit T = pack_refused (lent_of l) pack (sym fit) r T

@@ -3,7 +3,7 @@ ghost use Rattle.std.specs.Prelude.{◌≡◌};
 ghost use Rattle.definition.specs.Calls.{no_figures};
 ghost use Rattle.buffer.specs.Zero.{zeroed};
 
-use buffer::zero::zero_words_from;
+use buffer::zero::fill_from;
 use definition::Figures;
 
 // What stands behind so many class words and pattern words, and all else that was lent, becomes zeros.
@@ -20,10 +20,10 @@ pub fn clear(
     ensures graph { graph.new ≡ zeroed 0 graph.old }
     ensures work { work.new ≡ zeroed 0 work.old }
 {
-    zero_words_from(class, n);
-    zero_words_from(pattern, m);
-    zero_words_from(graph, 0);
-    zero_words_from(work, 0);
+    fill_from(class, n, 0);
+    fill_from(pattern, m, 0);
+    fill_from(graph, 0, 0);
+    fill_from(work, 0, 0);
 }
 
 // No figure.

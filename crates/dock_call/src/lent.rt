@@ -4,7 +4,6 @@ ghost use Rattle.definition.specs.Answer.{lengths};
 ghost use Rattle.dock_call.specs.Outcome.{refusal_of};
 ghost use Rattle.dock_call.specs.Lengths.{lent_of};
 
-use crate::answer::Outcome;
 use base::limit::Limit;
 use definition::{Buffer, Refusal};
 
@@ -28,32 +27,32 @@ impl Lent {
 }
 
 // The lengths tested, ahead of the pack.
-pub fn test_lengths(l: Lent) -> Outcome
+pub fn test_lengths(l: Lent) -> Result<(), Refusal>
     ensures { refusal_of result ≡ lengths (lent_of l) }
 {
     if Limit::CELLS < l.pack {
-        return Outcome::Refused(Refusal::Limit(0));
+        return Err(Refusal::Limit(0));
     }
     if Limit::CELLS < l.class {
-        return Outcome::Refused(Refusal::Limit(0));
+        return Err(Refusal::Limit(0));
     }
     if Limit::CELLS < l.pattern {
-        return Outcome::Refused(Refusal::Limit(0));
+        return Err(Refusal::Limit(0));
     }
     if Limit::CELLS < l.graph {
-        return Outcome::Refused(Refusal::Limit(0));
+        return Err(Refusal::Limit(0));
     }
     if Limit::WORK < l.work {
-        return Outcome::Refused(Refusal::Limit(0));
+        return Err(Refusal::Limit(0));
     }
     if Limit::CELLS < l.text {
-        return Outcome::Refused(Refusal::Limit(0));
+        return Err(Refusal::Limit(0));
     }
     if Limit::CELLS < l.goals {
-        return Outcome::Refused(Refusal::Limit(0));
+        return Err(Refusal::Limit(0));
     }
     if l.work < Lent::WORK_SHARE * (l.pattern + l.graph + l.pack) + Lent::WORK_MORE {
-        return Outcome::Refused(Refusal::Short(Buffer::WORK));
+        return Err(Refusal::Short(Buffer::WORK));
     }
-    Outcome::Done
+    Ok(())
 }

@@ -1,4 +1,5 @@
 -- A constructor's case: its variables, then its judgment, then its numbers.
+use Rattle.std.specs.Prelude.{Ok, Err}
 use Rattle.std.specs.Prelude.{◌≡◌, refl, length, take}
 use Rattle.std.proofs.Math.Path.{sym}
 use Rattle.std.proofs.Common.{ap, subst, ◌∙◌, arith, length-take}
@@ -31,7 +32,6 @@ use Rattle.emit_case.specs.Naming.{variables_are, asked_small}
 use Rattle.emit_case.specs.Casing.{over, given_on}
 use Rattle.emit_case.specs.Case.{most_case, tries, over_case, InCase, Varied, case_numbers, CaseAnswers}
 use Rattle.emit_case.specs.declared.goal.Inducting.{Inducting}
-use Rattle.emit_case.specs.declared.variables.Made.TheVariants.{All as Made-as-All, Refused as Made-as-Refused}
 use Rattle.emit_case.specs.declared.case.Cases.TheVariants.{All, Fails as Case-as-Fails, Refused as Case-as-Refused}
 
 -- ---- on plain values
@@ -105,10 +105,10 @@ module _ (w : World) (j c : ℕ) (e : Emitter) where
 -- ---- in states that the buffers hold
 module _ (b b₁ : Buffers) (l : Places) (m : Standing) (g : Inducting) (c : ℕ) (vs : List ℕ) where
   -- a buffer is short
-  pub case_short : (x : Refusal) → MakesVariables b b₁ l m c vs (Made-as-Refused x) → (cases cases' : List ℕ) (at : ℕ) → CaseAnswers b b₁ l m g c cases cases' at (Case-as-Refused x)
+  pub case_short : (x : Refusal) → MakesVariables b b₁ l m c vs (Err x) → (cases cases' : List ℕ) (at : ℕ) → CaseAnswers b b₁ l m g c cases cases' at (Case-as-Refused x)
   case_short x F cases cases' at = record { grown = tt; comes = λ w e R K. none_made w g.judgment c e x (F.comes w e R (record { symbol = K.symbol })) }
 
-  module _ (t : Standing) (n : ℕ) (F : MakesVariables b b₁ l m c vs (Made-as-All t n)) where
+  module _ (t : Standing) (n : ℕ) (F : MakesVariables b b₁ l m c vs (Ok (t, n))) where
     -- few variables, with small numbers
     pub numbers_small : AskedFor b l m (InCase g c) → (n ≤ most_arity) × (m.variables + 1 + most_case ≤ nothing)
     numbers_small A = (F.grown.1, omega (arith, asked_small b l m (InCase g c) A))

@@ -1,4 +1,5 @@
 -- A constructor's term over its variables, and its judgment under the hypotheses of those of L's sort.
+use Rattle.std.specs.Prelude.{Ok, Err}
 use Rattle.std.specs.Prelude.{◌≡◌, refl, true, false, ℕ, ◌≤◌, ◌<◌, eqb, length, take}
 use Rattle.std.proofs.Common.{sym, ◌∙◌, arith}
 use Rattle.std.proofs.Math.Path.{ap, subst}
@@ -32,7 +33,6 @@ use Rattle.emit_case.specs.Naming.{pack_readable}
 use Rattle.emit_case.specs.Inputs.{symbol_record}
 use Rattle.emit_case.specs.Case.{over_case, Varied, Cased}
 use Rattle.emit_case.specs.declared.goal.Inducting.{Inducting}
-use Rattle.emit_replace.specs.declared.put.Replaced.TheVariants.{As, Refused as NoRoom}
 
 -- ---- on plain values
 -- those of a sort are no more than all
@@ -82,14 +82,14 @@ module _ (pack work words proof work' words' : List ℕ) (l : Places) (m : Stand
   over_all w = over_case w g.judgment c vs
 
   -- there is no room for the term
-  pub over_short : (x : Refusal) → Interns work work' words words' l m zs (NoRoom x) → AnswersFor ahead between l m (Cased g c vs rs) over_all (Refused x)
+  pub over_short : (x : Refusal) → Interns work work' words words' l m zs (Err x) → AnswersFor ahead between l m (Cased g c vs rs) over_all (Refused x)
   unfolding over_run
   over_short x I = record {
     grown = tt;
     comes = λ w e R K. then_refused w.lent (interned (over c vs)) _ e x (ap (λ (n : Node). outcome w.lent (interned n e)) (sym (key-node c vs zs z)) ∙ I.comes pack proof w e R);
   }
 
-  module _ (t : Standing) (term : ℕ) (I : Interns work work' words words' l m zs (As t term)) where
+  module _ (t : Standing) (term : ℕ) (I : Interns work work' words words' l m zs (Ok (t, term))) where
     -- the state with the term
     record Termed (w : World) (e : Emitter) : Type 0 where
       state : Emitter

@@ -1,4 +1,5 @@
 -- The loop that supposes, for every state that the buffers held at its start.
+use Rattle.std.specs.Prelude.{Ok, Err}
 use Rattle.std.specs.Prelude.{◌≡◌, refl, List, [], ◌∷◌, ℕ, ◌+◌, ◌*◌, ◌^◌, ◌≤◌, ◌<◌, get_or, set, take}
 use Rattle.std.proofs.Math.Path.{sym, subst}
 use Rattle.std.proofs.Common.{◌∙◌, arith, length-set}
@@ -18,8 +19,6 @@ use Rattle.emit_case.specs.Asked.{AskedFor, Termed, Recursive}
 use Rattle.emit_case.specs.Supposing.{supposing, SupposesOne, SupposesAll}
 use Rattle.emit_case.specs.Each.{SupposedLeft, covers_front, supposed-first, supposed-all, next_termed, supposed-refused, supposed-more}
 use Rattle.emit_case.specs.declared.goal.Inducting.{Inducting}
-use Rattle.emit_case.specs.declared.suppose.Hypothesis.TheVariants.{Of, Refused as NotOne}
-use Rattle.emit_case.specs.declared.suppose.Hypotheses.TheVariants.{All, Refused as NotAll}
 
 -- no hypotheses, as they are counted
 none-counted : (hyps : List Bound) → length hyps ≡ 0 → hyps ≡ []
@@ -43,7 +42,7 @@ each_goes b l m g rs hs room = record { grown = omega arith; within = omega arit
 
 module _ (b₀ b : Buffers) (l : Places) (m t : Standing) (g : Inducting) (rs hs : List ℕ) (i : ℕ) (G : EachGoes b₀ b l m t g rs hs i) where
   -- all are
-  pub each_end : length rs ≤ i → SupposesAll b₀ b l m g rs hs (All t)
+  pub each_end : length rs ≤ i → SupposesAll b₀ b l m g rs hs (Ok t)
   unfolding suppose outcome first_short
   each_end h = record {
     grown = G.grown;
@@ -66,7 +65,7 @@ module _ (b₀ b : Buffers) (l : Places) (m t : Standing) (g : Inducting) (rs hs
     each_place = omega (arith, G.room)
 
     -- a buffer is short
-    pub each_short : (b' : Buffers) (x : Refusal) (hs' : List ℕ) → SupposesOne b b' l t g (get_or rs i 0) (NotOne x) → SupposesAll b₀ b' l m g rs hs' (NotAll x)
+    pub each_short : (b' : Buffers) (x : Refusal) (hs' : List ℕ) → SupposesOne b b' l t g (get_or rs i 0) (Err x) → SupposesAll b₀ b' l m g rs hs' (Err x)
     each_short b' x hs' E = record {
       grown = tt;
       comes = λ w e R z Q.
@@ -75,7 +74,7 @@ module _ (b₀ b : Buffers) (l : Places) (m t : Standing) (g : Inducting) (rs hs
     }
 
     -- one more is supposed
-    pub each_more : (b' : Buffers) (u : Standing) (p : ℕ) → SupposesOne b b' l t g (get_or rs i 0) (Of u p) → EachGoes b₀ b' l m u g rs (set hs i p) (i + 1)
+    pub each_more : (b' : Buffers) (u : Standing) (p : ℕ) → SupposesOne b b' l t g (get_or rs i 0) (Ok (u, p)) → EachGoes b₀ b' l m u g rs (set hs i p) (i + 1)
     each_more b' u p E = record {
       grown = omega (arith, G.grown, E.grown);
       within = omega arith;

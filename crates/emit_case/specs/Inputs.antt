@@ -1,4 +1,5 @@
 -- The loop over a constructor's inputs in code: what each turn asks, and what it leaves, for every state that the buffers held at first.
+use Rattle.std.specs.Prelude.{Result, Ok, Err}
 use Rattle.std.specs.Prelude.{◌≡◌, List, [], ◌∷◌, ℕ, zero, suc, ◌+◌, ◌*◌, ◌^◌, ◌≤◌, ◌<◌, length, get_or, set, take}
 use Rattle.std.proofs.Common.{sym, ap, subst, ◌∙◌, arith, length-set}
 use Rattle.definition.specs.Pack.{prop, most_arity, symbol_of}
@@ -19,9 +20,6 @@ use Rattle.emit_case.specs.Leaves.{PutTo}
 use Rattle.emit_case.specs.Variables.{variable_run, SortGiven, Constructor, Makes, numbers_from, MakesVariables}
 use Rattle.emit_case.specs.Naming.{pack_readable}
 use Rattle.emit_case.specs.VariablesLeft.{VariablesLeft, variables_first, variables_all, variables_refused, variables_on}
-use Rattle.emit_replace.specs.declared.put.Replaced.{Replaced}
-use Rattle.emit_replace.specs.declared.put.Replaced.TheVariants.{As, Refused}
-use Rattle.emit_case.specs.declared.variables.Made.TheVariants.{All, Refused as Made-as-Refused}
 
 -- the sorts of a constructor's inputs
 abbrev pub inputs_of : World → ℕ → List ℕ
@@ -75,7 +73,7 @@ inputs_go b l m c n vs A room N =
 
 module _ (b₀ b : Buffers) (l : Places) (m t : Standing) (c n : ℕ) (vs : List ℕ) (i : ℕ) (G : InputsGo b₀ b l m t c n vs i) where
   -- all have
-  pub inputs_end : n ≤ i → MakesVariables b₀ b l m c vs (All t n)
+  pub inputs_end : n ≤ i → MakesVariables b₀ b l m c vs (Ok (t, n))
   inputs_end h = record {
     grown = (G.grown, G.few);
     comes = λ w e R K.
@@ -133,21 +131,21 @@ module _ (b₀ b : Buffers) (l : Places) (m t : Standing) (c n : ℕ) (vs : List
       sort-asked A = let M = next-sort A.world A.state A.ready A.holds in record { world = A.world; state = M.left.state; ready = M.left.ready; holds = M.given }
 
       -- what it came to, by the sort that the pack has
-      came-to : (b' : Buffers) (r : Replaced) → Makes b b' l t (SortGiven sort) (λ w. variable_run w.setting sort) r → (w : World) (e : Emitter) (M : NextSort w e)
+      came-to : (b' : Buffers) (r : Result (Standing × ℕ) Refusal) → Makes b b' l t (SortGiven sort) (λ w. variable_run w.setting sort) r → (w : World) (e : Emitter) (M : NextSort w e)
           → PutTo b' l w (outcome w.lent (variable_run w.setting (get_or (inputs_of w c) i 0) M.left.state)) r
       came-to b' r A w e M = subst (λ (s : ℕ). PutTo b' l w (outcome w.lent (variable_run w.setting s M.left.state)) r) M.is_so (A.comes w M.left.state M.left.ready M.given)
 
       -- a buffer is short
-      pub inputs_short : (b' : Buffers) (vs' : List ℕ) (x : Refusal) → Makes b b' l t (SortGiven sort) (λ w. variable_run w.setting sort) (Refused x) → MakesVariables b₀ b' l m c vs' (Made-as-Refused x)
+      pub inputs_short : (b' : Buffers) (vs' : List ℕ) (x : Refusal) → Makes b b' l t (SortGiven sort) (λ w. variable_run w.setting sort) (Err x) → MakesVariables b₀ b' l m c vs' (Err x)
       inputs_short b' vs' x A = record {
         grown = tt;
         comes = λ w e R K.
             let M = next-sort w e R K in
-            variables_refused b l t w (inputs_of w c) (tally e.undone.lines).variables vs i _ M.left M.within M.proper x (came-to b' (Refused x) A w e M);
+            variables_refused b l t w (inputs_of w c) (tally e.undone.lines).variables vs i _ M.left M.within M.proper x (came-to b' (Err x) A w e M);
       }
 
       -- it has its variable
-      pub inputs_go_on : (b' : Buffers) (u : Standing) (v : ℕ) → Makes b b' l t (SortGiven sort) (λ w. variable_run w.setting sort) (As u v) → InputsGo b₀ b' l m u c n (set vs i v) (i + 1)
+      pub inputs_go_on : (b' : Buffers) (u : Standing) (v : ℕ) → Makes b b' l t (SortGiven sort) (λ w. variable_run w.setting sort) (Ok (u, v)) → InputsGo b₀ b' l m u c n (set vs i v) (i + 1)
       inputs_go_on b' u v A = record {
         grown = omega (arith, G.grown, A.grown);
         upto = omega arith;
@@ -156,5 +154,5 @@ module _ (b₀ b : Buffers) (l : Places) (m t : Standing) (c n : ℕ) (vs : List
         many = G.many;
         left = λ w e R K.
             let M = next-sort w e R K in
-            variables_on b l t w (inputs_of w c) (tally e.undone.lines).variables vs i _ M.left M.within M.proper place-below b' u v (came-to b' (As u v) A w e M);
+            variables_on b l t w (inputs_of w c) (tally e.undone.lines).variables vs i _ M.left M.within M.proper place-below b' u v (came-to b' (Ok (u, v)) A w e M);
       }

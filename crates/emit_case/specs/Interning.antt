@@ -1,4 +1,5 @@
 -- A pattern that a search makes.
+use Rattle.std.specs.Prelude.{Some, None, Result, Ok, Err}
 use Rattle.std.specs.Prelude.{◌≡◌, List, ℕ, ◌-◌, ◌≤◌, length}
 use Rattle.std.proofs.Common.{sym, ap, subst, ◌∙◌, arith}
 use Rattle.definition.specs.Pack.{Node}
@@ -11,7 +12,6 @@ use Rattle.memo.specs.Lent.{lent, back-lent, back_outside}
 use Rattle.store.specs.Words.{node_with, begins_long}
 use Rattle.store.specs.Stored.{Stored, nodes, Answer}
 use Rattle.store.specs.declared.nodes.Store.{Store}
-use Rattle.store.specs.declared.nodes.Interned.TheVariants.{Id, Short as NoRoom}
 use Rattle.emission.specs.State.{Emitter, interned, having_store}
 use Rattle.emit_state.specs.Places.{index_end, index_in}
 use Rattle.emit_state.specs.Holding.{lends, World, Ready, got}
@@ -20,8 +20,7 @@ use Rattle.emit_state.specs.Grown.{having_patterns, holding_patterns}
 use Rattle.emit_state.specs.declared.places.Places.{Places}
 use Rattle.emit_state.specs.declared.standing.Standing.{Standing}
 use Rattle.emit_case.specs.Leaves.{PutTo, GrownTo}
-use Rattle.emit_replace.specs.declared.put.Replaced.{Replaced}
-use Rattle.emit_replace.specs.declared.put.Replaced.TheVariants.{As, Refused}
+use Rattle.definition.specs.declared.Refusal.{Refusal}
 
 -- the buffers of the patterns hold a state, whatever stands beside them
 pub record AskedNode (work words : List ℕ) (l : Places) (m : Standing) : Type 0 where
@@ -32,7 +31,7 @@ pub record AskedNode (work words : List ℕ) (l : Places) (m : Standing) : Type 
   pub ready : Ready (lends pack work words proof) l m world state
 
 -- the node's pattern, or no room for it
-pub record Interns (work work' words words' : List ℕ) (l : Places) (m : Standing) (key : List ℕ) (r : Replaced) : Type 0 where
+pub record Interns (work work' words words' : List ℕ) (l : Places) (m : Standing) (key : List ℕ) (r : Result (Standing × ℕ) Refusal) : Type 0 where
   pub grown : GrownTo m r
   pub comes : (pack proof : List ℕ) (w : World) (e : Emitter) → Ready (lends pack work words proof) l m w e → PutTo (lends pack work' words' proof) l w (outcome w.lent (interned (node_with key) e)) r
 
@@ -52,7 +51,7 @@ module _ (work words : List ℕ) (l : Places) (m : Standing) (key : List ℕ) (i
     fits = omega (arith, A.ready.holding.laid.index, A.ready.holding.laid.within)
 
     -- the node's pattern
-    pub interns_as : (p : Pattern) (st : Store) → Answer (index_in work l) words index' words' m.store key (Id p st) → Interns work with_index words words' l m key (As (having_patterns st m) p.0)
+    pub interns_as : (p : Pattern) (st : Store) → Answer (index_in work l) words index' words' m.store key (Some (p, st)) → Interns work with_index words words' l m key (Ok ((having_patterns st m), p.0))
     interns_as p st F =
         let s = nodes words m.store in
         let stands : Stored (index_in with_index l) words' st = subst (λ (zs : List ℕ). Stored zs words' st) (sym (back-lent l.index (index_end l) work up fits index' long)) F.3 in
@@ -74,7 +73,7 @@ module _ (work words : List ℕ) (l : Places) (m : Standing) (key : List ℕ) (i
         }
 
     -- no room for it
-    pub interns_short : Answer (index_in work l) words index' words' m.store key NoRoom → Interns work with_index words words' l m key (Refused (Short 2))
+    pub interns_short : Answer (index_in work l) words index' words' m.store key None → Interns work with_index words words' l m key (Err (Short 2))
     interns_short F = record {
       grown = tt;
       comes = λ pack proof w e R.
@@ -93,13 +92,13 @@ module _ (work words : List ℕ) (l : Places) (m : Standing) (key : List ℕ) (i
     long_to = subst (λ (t : ℕ). length index' ≡ length (lent l.index t work)) z long
 
     -- the node's pattern
-    pub interns_as_to : (p : Pattern) (st : Store) → Answer (lent l.index to work) words index' words' m.store key (Id p st) → Interns work (put l.index (to - l.index) index' work) words words' l m key (As (having_patterns st m) p.0)
+    pub interns_as_to : (p : Pattern) (st : Store) → Answer (lent l.index to work) words index' words' m.store key (Some (p, st)) → Interns work (put l.index (to - l.index) index' work) words words' l m key (Ok ((having_patterns st m), p.0))
     interns_as_to p st F =
-        subst (λ (t : ℕ). Interns work (put l.index (t - l.index) index' work) words words' l m key (As (having_patterns st m) p.0)) (sym z)
-        (interns_as A long_to same p st (subst (λ (t : ℕ). Answer (lent l.index t work) words index' words' m.store key (Id p st)) z F))
+        subst (λ (t : ℕ). Interns work (put l.index (t - l.index) index' work) words words' l m key (Ok ((having_patterns st m), p.0))) (sym z)
+        (interns_as A long_to same p st (subst (λ (t : ℕ). Answer (lent l.index t work) words index' words' m.store key (Some (p, st))) z F))
 
     -- no room for it
-    pub interns_short_to : Answer (lent l.index to work) words index' words' m.store key NoRoom → Interns work (put l.index (to - l.index) index' work) words words' l m key (Refused (Short 2))
+    pub interns_short_to : Answer (lent l.index to work) words index' words' m.store key None → Interns work (put l.index (to - l.index) index' work) words words' l m key (Err (Short 2))
     interns_short_to F =
-        subst (λ (t : ℕ). Interns work (put l.index (t - l.index) index' work) words words' l m key (Refused (Short 2))) (sym z)
-        (interns_short A long_to same (subst (λ (t : ℕ). Answer (lent l.index t work) words index' words' m.store key NoRoom) z F))
+        subst (λ (t : ℕ). Interns work (put l.index (t - l.index) index' work) words words' l m key (Err (Short 2))) (sym z)
+        (interns_short A long_to same (subst (λ (t : ℕ). Answer (lent l.index t work) words index' words' m.store key None) z F))

@@ -1,4 +1,5 @@
 -- A new case variable: its pattern, then its line and its name.
+use Rattle.std.specs.Prelude.{Result, Ok, Err}
 use Rattle.std.specs.Prelude.{◌≡◌, refl}
 use Rattle.std.proofs.Common.{sym, ◌∙◌, arith}
 use Rattle.std.proofs.Math.Path.{ap, subst}
@@ -34,8 +35,6 @@ use Rattle.emit_case.specs.Leaves.{PutTo, GrownTo}
 use Rattle.emit_case.specs.Interning.{Interns}
 use Rattle.emit_case.specs.Variables.{name_run, variable_run, SortGiven, Unnamed, Makes}
 use Rattle.emit_case.specs.Naming.{variables_are}
-use Rattle.emit_replace.specs.declared.put.Replaced.{Replaced}
-use Rattle.emit_replace.specs.declared.put.Replaced.TheVariants.{As, Refused}
 
 -- the node of the next case variable
 abbrev pub next_node : Emitter → ℕ → Node
@@ -107,9 +106,9 @@ module _ (lent : Lent) (S : Setting) (sort : ℕ) (e : Emitter) where
   variable_short x h = ap (outcome lent) (now_then _ e) ∙ then_refused lent (interned (next_node e sort)) _ e x h
 
 -- grown and grown again
-grown_on : (m t : Standing) (r : Replaced) → m.store.len ≤ t.store.len → GrownTo t r → GrownTo m r
-grown_on m t (As u v) h g = omega arith
-grown_on m t (Refused x) h g = tt
+grown_on : (m t : Standing) (r : Result (Standing × ℕ) Refusal) → m.store.len ≤ t.store.len → GrownTo t r → GrownTo m r
+grown_on m t (Ok (u, v)) h g = omega arith
+grown_on m t (Err x) h g = tt
 
 -- the key of the next variable
 abbrev pub next_key : Standing → ℕ → List ℕ
@@ -131,13 +130,13 @@ module _ (pack work words proof work' words' : List ℕ) (l : Places) (m : Stand
   key-node w e R = ap (λ (k : ℕ). variable_node (case_number k) sort) (sym (variables_are ahead l m w e R.holding))
 
   -- there was no room for the pattern
-  pub variable-refused : (x : Refusal) → Interns work work' words words' l m (next_key m sort) (Refused x) → (b' : Buffers) → Makes ahead b' l m (SortGiven sort) (λ w. variable_run w.setting sort) (Refused x)
+  pub variable-refused : (x : Refusal) → Interns work work' words words' l m (next_key m sort) (Err x) → (b' : Buffers) → Makes ahead b' l m (SortGiven sort) (λ w. variable_run w.setting sort) (Err x)
   variable-refused x I b' = record {
     grown = tt;
     comes = λ w e R G. variable_short w.lent w.setting sort e x (ap (λ (n : Node). outcome w.lent (interned n e)) (sym (key-node w e R)) ∙ I.comes pack proof w e R);
   }
 
-  module _ (t : Standing) (v : ℕ) (I : Interns work work' words words' l m (next_key m sort) (As t v)) where
+  module _ (t : Standing) (v : ℕ) (I : Interns work work' words words' l m (next_key m sort) (Ok (t, v))) where
     -- the state with the pattern
     record Interned (w : World) (e : Emitter) : Type 0 where
       state : Emitter
@@ -168,7 +167,7 @@ module _ (pack work words proof work' words' : List ℕ) (l : Places) (m : Stand
     name-asked A = let N = is_interned A.world A.state A.ready A.holds in record { world = A.world; state = N.state; ready = N.ready; holds = N.unnamed }
 
     -- and were
-    pub variable_makes : (b' : Buffers) (r : Replaced) → Makes between b' l t (Unnamed v sort) (λ w. name_run w.setting v sort) r → Makes ahead b' l m (SortGiven sort) (λ w. variable_run w.setting sort) r
+    pub variable_makes : (b' : Buffers) (r : Result (Standing × ℕ) Refusal) → Makes between b' l t (Unnamed v sort) (λ w. name_run w.setting v sort) r → Makes ahead b' l m (SortGiven sort) (λ w. variable_run w.setting sort) r
     variable_makes b' r M = record {
       grown = grown_on m t r I.grown M.grown;
       comes = λ w e R G.

@@ -1,4 +1,5 @@
 -- The next case variable's line and name.
+use Rattle.std.specs.Prelude.{Ok, Err}
 use Rattle.std.specs.Prelude.{◌≡◌, List, [], ◌∷◌, ◌++◌, ℕ, suc, ◌+◌, ◌≤◌, ◌<◌, length}
 use Rattle.std.proofs.Math.Path.{refl, ap}
 use Rattle.std.proofs.Common.{sym, subst, ◌∙◌, add-one, arith}
@@ -28,7 +29,6 @@ use Rattle.emit_state.specs.declared.places.Places.{Places}
 use Rattle.emit_state.specs.declared.standing.Standing.{Standing}
 use Rattle.emit_case.specs.Asked.{AskedFor}
 use Rattle.emit_case.specs.Variables.{name_run, Unnamed, Makes}
-use Rattle.emit_replace.specs.declared.put.Replaced.TheVariants.{As, Refused}
 
 -- the state with line and name
 abbrev pub with_name : ℕ → ℕ → Emitter → Emitter
@@ -103,7 +103,7 @@ module _ (pack work words proof : List ℕ) (l : Places) (m : Standing) (v sort 
   next = omega arith
 
   -- it had no room
-  pub names_short : length proof < r → (b' : Buffers) → Makes ahead b' l m (Unnamed v sort) (λ w. name_run w.setting v sort) (Refused (Short 5))
+  pub names_short : length proof < r → (b' : Buffers) → Makes ahead b' l m (Unnamed v sort) (λ w. name_run w.setting v sort) (Err (Short 5))
   names_short h b' = record {
     grown = tt;
     comes = λ w e R U. name_short w.lent w.setting v sort e (line_short ahead l m w e R.holding (var_line sort) proof' long (λ t. suc t.variables ≡ m.variables + 1) next r A h);
@@ -111,7 +111,7 @@ module _ (pack work words proof : List ℕ) (l : Places) (m : Standing) (v sort 
 
   -- it had room, and the name was entered
   pub names_made : r ≤ length proof → (work' : List ℕ) (trail : ℕ) → Enters work work' (maps_of l) 3 v m.variables m.trail trail
-      → Makes ahead (lends pack work' words proof') l m (Unnamed v sort) (λ w. name_run w.setting v sort) (As (with_trail (with_line m r (one_variable m)) trail) v)
+      → Makes ahead (lends pack work' words proof') l m (Unnamed v sort) (λ w. name_run w.setting v sort) (Ok ((with_trail (with_line m r (one_variable m)) trail), v))
   names_made h work' trail E = record {
     grown = omega arith;
     comes = λ w e R U.

@@ -1,4 +1,5 @@
 -- One hypothesis: put for L, written, entered.
+use Rattle.std.specs.Prelude.{Ok, Err}
 use Rattle.std.specs.Prelude.{◌≡◌, refl, List, ◌∷◌, ℕ, ◌<◌}
 use Rattle.std.proofs.Math.Path.{sym}
 use Rattle.std.proofs.Common.{ap, ◌∙◌, arith}
@@ -34,8 +35,6 @@ use Rattle.emit_case.specs.Runs.{suppose_one, supposed}
 use Rattle.emit_case.specs.Supposing.{Entering, Entered, SupposesOne}
 use Rattle.emit_case.specs.Putting.{put_on, len_is, len_room}
 use Rattle.emit_case.specs.declared.goal.Inducting.{Inducting}
-use Rattle.emit_replace.specs.declared.put.Replaced.TheVariants.{As, Refused as NoRoom}
-use Rattle.emit_case.specs.declared.suppose.Hypothesis.TheVariants.{Of, Refused as NotOne}
 
 -- ---- on plain values
 module _ (l : Lent) (S : Setting) (v j : ℕ) (e : Emitter) where
@@ -86,16 +85,16 @@ one_comes S good few v j e s l h =
 -- ---- the function
 module _ (pack work words proof : List ℕ) (l : Places) (m : Standing) (g : Inducting) (v : ℕ) (work₁ words₁ : List ℕ) where
   -- there is no room for the judgment
-  pub one_short : (x : Refusal) → PutsFor work work₁ words words₁ l m g.eigen v g.judgment (NoRoom x) → SupposesOne (lends pack work words proof) (lends pack work₁ words₁ proof) l m g v (NotOne x)
+  pub one_short : (x : Refusal) → PutsFor work work₁ words words₁ l m g.eigen v g.judgment (Err x) → SupposesOne (lends pack work words proof) (lends pack work₁ words₁ proof) l m g v (Err x)
   one_short x F = record {
     grown = tt;
     comes = λ w e R T. one_unmade w.lent w.setting v g.judgment e x (F.comes pack proof w e R T.given.eigen T.of_sort.stored T.given.has.stored);
   }
 
-  module _ (t : Standing) (h : ℕ) (F : PutsFor work work₁ words words₁ l m g.eigen v g.judgment (As t h)) (work₂ proof₂ : List ℕ) where
+  module _ (t : Standing) (h : ℕ) (F : PutsFor work work₁ words words₁ l m g.eigen v g.judgment (Ok (t, h))) (work₂ proof₂ : List ℕ) where
     -- nor for its line
     pub one_unheld : (x : Refusal) → Answers (lends pack work₁ words₁ proof) (lends pack work₂ words₁ proof₂) l t h (λ w. supposed w.setting h) (Refused x)
-        → SupposesOne (lends pack work words proof) (lends pack work₂ words₁ proof₂) l m g v (NotOne x)
+        → SupposesOne (lends pack work words proof) (lends pack work₂ words₁ proof₂) l m g v (Err x)
     one_unheld x E = record {
       grown = tt;
       comes = λ w e R T.
@@ -115,7 +114,7 @@ module _ (pack work words proof : List ℕ) (l : Places) (m : Standing) (g : Ind
           )
 
       -- it is entered
-      pub one_entered : (work₃ : List ℕ) (u' : Standing) → Entered work₂ work₃ l u h n u' → SupposesOne (lends pack work words proof) (lends pack work₃ words₁ proof₂) l m g v (Of u' h)
+      pub one_entered : (work₃ : List ℕ) (u' : Standing) → Entered work₂ work₃ l u h n u' → SupposesOne (lends pack work words proof) (lends pack work₃ words₁ proof₂) l m g v (Ok (u', h))
       one_entered work₃ u' N = record {
         grown = omega (arith, F.grown, E.grown, ap (λ (s : Store). s.len) N.store);
         comes = λ w e R T.

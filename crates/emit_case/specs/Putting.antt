@@ -1,4 +1,5 @@
 -- A pattern put for L: the state behind it, in which the judgment made is one; and a case's goal.
+use Rattle.std.specs.Prelude.{Ok, Err}
 use Rattle.std.specs.Prelude.{◌≡◌, refl, List, ℕ, ◌≤◌, length}
 use Rattle.std.proofs.Common.{sym, ap, arith}
 use Rattle.std.proofs.Math.Path.{subst}
@@ -25,7 +26,6 @@ use Rattle.emit_search.specs.Trying.{deeper}
 use Rattle.emit_case.specs.Asked.{AskedFor, AnswersFor, Termed}
 use Rattle.emit_case.specs.Runs.{goal_with, goal_run}
 use Rattle.emit_case.specs.declared.goal.Inducting.{Inducting}
-use Rattle.emit_replace.specs.declared.put.Replaced.TheVariants.{As, Refused as NoRoom}
 
 -- what is later than a later one
 pub grown_then : (m t : Standing) (o : Proved) → m.store.len ≤ t.store.len → Grown t o → Grown m o
@@ -66,7 +66,7 @@ module _ (pack work words proof : List ℕ) (l : Places) (m : Standing) (g : Ind
 
   module _ (work' words' : List ℕ) where
     -- the state behind it
-    pub put_on : (t : Standing) (q : ℕ) → PutsFor work work' words words' l m g.eigen y g.judgment (As t q) → (w : World) (e : Emitter) → Ready (lends pack work words proof) l m w e → Termed g y w e
+    pub put_on : (t : Standing) (q : ℕ) → PutsFor work work' words words' l m g.eigen y g.judgment (Ok (t, q)) → (w : World) (e : Emitter) → Ready (lends pack work words proof) l m w e → Termed g y w e
         → Put (lends pack work' words' proof) l t w e y g.judgment q
     put_on t q F w e R T =
         let S = w.setting in
@@ -77,14 +77,14 @@ module _ (pack work words proof : List ℕ) (l : Places) (m : Standing) (g : Ind
         record { state = C.0; is_so = C.1; grew = O.grew; ready = ready_on (lends pack work words proof) (lends pack work' words' proof) l m t w e (λ p e₁. Has S e₁ prop p) D R O C.2; has = O.holds q refl }
 
     -- it is asked for
-    pub made-asked : (t : Standing) (q : ℕ) → PutsFor work work' words words' l m g.eigen y g.judgment (As t q) → AskedFor (lends pack work words proof) l m (Termed g y) → Asked (lends pack work' words' proof) l t q
+    pub made-asked : (t : Standing) (q : ℕ) → PutsFor work work' words words' l m g.eigen y g.judgment (Ok (t, q)) → AskedFor (lends pack work words proof) l m (Termed g y) → Asked (lends pack work' words' proof) l t q
     made-asked t q F A =
         let P = put_on t q F A.world A.state A.ready A.holds in
         record { world = A.world; state = P.state; ready = P.ready; has = P.has }
 
     -- ---- a case's goal
     -- the judgment made is chained
-    pub goal_on : (t : Standing) (q : ℕ) → PutsFor work work' words words' l m g.eigen y g.judgment (As t q) → (b' : Buffers) (o : Proved)
+    pub goal_on : (t : Standing) (q : ℕ) → PutsFor work work' words words' l m g.eigen y g.judgment (Ok (t, q)) → (b' : Buffers) (o : Proved)
         → Answers (lends pack work' words' proof) b' l t q (λ w. chain w.setting (deeper w 1) q) o → AnswersFor (lends pack work words proof) b' l m (Termed g y) (λ w. goal_run w y g.judgment) o
     unfolding goal_with
     goal_on t q F b' o E = record {
@@ -95,7 +95,7 @@ module _ (pack work words proof : List ℕ) (l : Places) (m : Standing) (g : Ind
     }
 
     -- there is no room for it
-    pub goal_short : (x : Refusal) → PutsFor work work' words words' l m g.eigen y g.judgment (NoRoom x) → AnswersFor (lends pack work words proof) (lends pack work' words' proof) l m (Termed g y) (λ w. goal_run w y g.judgment) (Refused x)
+    pub goal_short : (x : Refusal) → PutsFor work work' words words' l m g.eigen y g.judgment (Err x) → AnswersFor (lends pack work words proof) (lends pack work' words' proof) l m (Termed g y) (λ w. goal_run w y g.judgment) (Refused x)
     unfolding goal_with
     goal_short x F = record {
       grown = tt;

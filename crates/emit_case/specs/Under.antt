@@ -1,4 +1,5 @@
 -- A case's goal under hypotheses, which are dropped behind it.
+use Rattle.std.specs.Prelude.{Ok, Err}
 use Rattle.std.specs.Prelude.{◌≡◌, refl, List, [], ℕ, ◌-◌, ◌≤◌, length, get_or, take}
 use Rattle.std.proofs.Common.{sym, ap, subst, ◌∙◌, arith, length-take}
 use Rattle.std.proofs.Math.Option.{some}
@@ -24,7 +25,6 @@ use Rattle.emit_case.specs.Runs.{goal_with, goal_run, supposing_run}
 use Rattle.emit_case.specs.Supposing.{supposing, Dropping, Dropped, AllBelow, SupposesAll}
 use Rattle.emit_case.specs.Putting.{len_is, len_room}
 use Rattle.emit_case.specs.declared.goal.Inducting.{Inducting}
-use Rattle.emit_case.specs.declared.suppose.Hypotheses.TheVariants.{All, Refused as NotAll}
 
 -- the front of an array, as it is lent
 pub front : (n : ℕ) (hs : List ℕ) → take (n - 0) hs ≡ take n hs
@@ -51,14 +51,14 @@ module _ (b : Buffers) (l : Places) (m : Standing) (g : Inducting) (term : ℕ) 
 
   module _ (b₁ : Buffers) (hs : List ℕ) where
     -- a buffer is short
-    pub under_short : (x : Refusal) → SupposesAll b b₁ l m g rs hs (NotAll x) → AnswersFor b b₁ l m (Inducted g term rs) supposing_term (Refused x)
+    pub under_short : (x : Refusal) → SupposesAll b b₁ l m g rs hs (Err x) → AnswersFor b b₁ l m (Inducted g term rs) supposing_term (Refused x)
     unfolding supposing_run
     under_short x F = record {
       grown = tt;
       comes = λ w e R I. then_refused w.lent (suppose w.setting g.judgment rs []) (λ hyps. goal_with w.setting hyps term g.judgment) e x (F.comes w e R I.none I.recursive);
     }
 
-    module _ (t : Standing) (F : SupposesAll b b₁ l m g rs hs (All t)) where
+    module _ (t : Standing) (F : SupposesAll b b₁ l m g rs hs (Ok t)) where
       -- they are supposed
       under_on : (w : World) (e : Emitter) → Ready b l m w e → Inducted g term rs w e → Under b₁ l t w e g term rs (take (length rs) hs)
       under_on w e R I =

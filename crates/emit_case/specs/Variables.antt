@@ -1,4 +1,5 @@
 -- The variables of a case.
+use Rattle.std.specs.Prelude.{Result, Ok, Err}
 use Rattle.std.specs.Prelude.{◌≡◌, List, [], ◌∷◌, map, ℕ, zero, suc, ◌≤◌, ◌<◌, length, get_or, take}
 use Rattle.definition.specs.Pack.{prop, no_node, most_arity, symbol_of}
 use Rattle.definition.specs.Store.{variable_node}
@@ -14,9 +15,7 @@ use Rattle.emit_state.specs.Holding.{Buffers, World, Holding, Ready, got}
 use Rattle.emit_state.specs.declared.places.Places.{Places}
 use Rattle.emit_state.specs.declared.standing.Standing.{Standing}
 use Rattle.emit_case.specs.Leaves.{PutTo, GrownTo}
-use Rattle.emit_replace.specs.declared.put.Replaced.{Replaced}
-use Rattle.emit_case.specs.declared.variables.Made.{Made}
-use Rattle.emit_case.specs.declared.variables.Made.TheVariants.{All, Refused}
+use Rattle.definition.specs.declared.Refusal.{Refusal}
 
 -- a pattern's line as the next case variable, and its name
 unfoldable pub name_run : Setting → ℕ → ℕ → Search ℕ
@@ -50,7 +49,7 @@ pub record Constructor (c : ℕ) (w : World) (e : Emitter) : Type 0 where
   pub symbol : c < length w.setting.pack.symbols
 
 -- the pattern that a run makes, or a short buffer, for every state that the buffers held and of which Q holds
-pub record Makes (b b' : Buffers) (l : Places) (m : Standing) (Q : World → Emitter → Type 0) (run : World → Search ℕ) (r : Replaced) : Type 0 where
+pub record Makes (b b' : Buffers) (l : Places) (m : Standing) (Q : World → Emitter → Type 0) (run : World → Search ℕ) (r : Result (Standing × ℕ) Refusal) : Type 0 where
   pub grown : GrownTo m r
   pub comes : (w : World) (e : Emitter) → Ready b l m w e → Q w e → PutTo b' l w (outcome w.lent (run w e)) r
 
@@ -60,17 +59,17 @@ numbers_from zero k = []
 numbers_from (suc n) k = k ∷ numbers_from n (suc k)
 
 -- the variables with their patterns in vs, held by the buffers
-abbrev pub MadeTo : Buffers → Places → World → Emitter → ℕ → List ℕ → Read (Tried (List Bound)) → Made → Type 0
-MadeTo b l w e c vs o (All t n) =
+abbrev pub MadeTo : Buffers → Places → World → Emitter → ℕ → List ℕ → Read (Tried (List Bound)) → Result (Standing × ℕ) Refusal → Type 0
+MadeTo b l w e c vs o (Ok (t, n)) =
     (bs : List Bound) × (e' : Emitter) × (o ≡ got bs e') × (n ≡ length (symbol_of w.setting.pack c).inputs) × (map (λ (v : Bound). v.value) bs ≡ take n vs)
     × (map (λ (v : Bound). v.variable) bs ≡ numbers_from n (suc (tally e.undone.lines).variables)) × Holding b l t w e'
-MadeTo b l w e c vs o (Refused x) = o ≡ refuse x
+MadeTo b l w e c vs o (Err x) = o ≡ refuse x
 
-abbrev pub GrownMade : Standing → Made → Type 0
-GrownMade m (All t n) = (m.store.len ≤ t.store.len) × (n ≤ most_arity)
-GrownMade m (Refused x) = Unit {0}
+abbrev pub GrownMade : Standing → Result (Standing × ℕ) Refusal → Type 0
+GrownMade m (Ok (t, n)) = (m.store.len ≤ t.store.len) × (n ≤ most_arity)
+GrownMade m (Err x) = Unit {0}
 
-pub record MakesVariables (b b' : Buffers) (l : Places) (m : Standing) (c : ℕ) (vs : List ℕ) (r : Made) : Type 0 where
+pub record MakesVariables (b b' : Buffers) (l : Places) (m : Standing) (c : ℕ) (vs : List ℕ) (r : Result (Standing × ℕ) Refusal) : Type 0 where
   pub grown : GrownMade m r
   pub comes : (w : World) (e : Emitter) → Ready b l m w e → Constructor c w e → MadeTo b' l w e c vs (outcome w.lent (case_variables w.setting (symbol_of w.setting.pack c).inputs e)) r
 

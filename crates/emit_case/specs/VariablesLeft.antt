@@ -1,4 +1,5 @@
 -- The loop over a constructor's inputs: each has its variable made, and what is left to do gives what the whole gives.
+use Rattle.std.specs.Prelude.{Ok}
 use Rattle.std.specs.Prelude.{◌≡◌, refl, ℕ, zero, suc, ◌+◌, ◌≤◌, ◌<◌, length, get_or, set, take, drop}
 use Rattle.std.proofs.Common.{sym, ◌∙◌, arith, drop_of_length-le, drop-cons, take-suc-set}
 use Rattle.std.proofs.Math.Path.{ap}
@@ -25,7 +26,6 @@ use Rattle.emit_state.specs.declared.standing.Standing.{Standing}
 use Rattle.emit_case.specs.Leaves.{PutTo}
 use Rattle.emit_case.specs.Variables.{name_run, variable_run, numbers_from}
 use Rattle.emit_case.specs.Making.{next_node, OneMore, Next, next_comes, variable_comes}
-use Rattle.emit_replace.specs.declared.put.Replaced.TheVariants.{As}
 
 -- the variables that are left, behind those that are made
 unfoldable pub making : Setting → List ℕ → List Bound → Search (List Bound)
@@ -132,7 +132,7 @@ module _ (b : Buffers) (l : Places) (t : Standing) (w : World) (sorts : List ℕ
         sym rest_here ∙ made-refused w.lent w.setting P.good P.few (get_or sorts i 0) (drop (suc i) sorts) G.made G.state G.ready.sound x q
 
     -- the next variable is made
-    pub variables_on : i < length vs → (b' : Buffers) (u : Standing) (v : ℕ) → PutTo b' l w (outcome w.lent (variable_run w.setting (get_or sorts i 0) G.state)) (As u v) → VariablesLeft b' l u w sorts first (set vs i v) (i + 1) whole
+    pub variables_on : i < length vs → (b' : Buffers) (u : Standing) (v : ℕ) → PutTo b' l w (outcome w.lent (variable_run w.setting (get_or sorts i 0) G.state)) (Ok (u, v)) → VariablesLeft b' l u w sorts first (set vs i v) (i + 1) whole
     variables_on room b' u v C =
         let S = w.setting in
         let e = G.state in

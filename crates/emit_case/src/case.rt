@@ -9,12 +9,10 @@ ghost use Rattle.emit_case.specs.Case.{most_key, most_case, Cased, Varied, InCas
 use crate::goal::Inducting;
 use crate::intern::intern;
 use crate::suppose::prove_supposing;
-use crate::variables::{Made, case_variables, recursive};
-use base::copy::copy_words;
+use crate::variables::{case_variables, recursive};
 use base::limit::Limit;
 use definition::Refusal;
 use emit_lines::case::Case;
-use emit_replace::put::Replaced;
 use emit_state::places::Places;
 use emit_state::standing::{Proved, Standing};
 
@@ -43,7 +41,7 @@ fn lay_key(c: u32, vs: &[u32], key: &mut [u32]) -> usize
 {
     let n = vs.len() + 1;
     key[0] = c;
-    copy_words(vs, &mut key[1..n]);
+    key[1..n].copy_from_slice(vs);
     n
 }
 
@@ -67,8 +65,8 @@ fn case_over(
     let mut key = [0; Limit::KEY];
     let n = lay_key(c, vs, &mut key);
     match intern(work, words, l, m, &key[0..n]) {
-        Replaced::As(t, term) => prove_supposing(pack, work, words, proof, l, t, g, term, rs),
-        Replaced::Refused(x) => Proved::Refused(x),
+        Ok((t, term)) => prove_supposing(pack, work, words, proof, l, t, g, term, rs),
+        Err(x) => Proved::Refused(x),
     }
 }
 
@@ -101,10 +99,8 @@ fn put_case(cases: &mut [u32], at: usize, last: u32, first: u32, n: usize)
     cases[at] = last;
     cases[at + Case::MANY] = n as u32;
     let from = at + Case::VARIABLES;
-    let mut i: usize = 0;
-    while i < n {
+    for i in 0..n {
         cases[from + i] = first + i as u32;
-        i += 1;
     }
 }
 
@@ -127,7 +123,7 @@ pub fn induct_case(
     let first = m.variables + 1;
     let mut vs = [0; Limit::ARITY];
     match case_variables(pack, work, words, proof, l, m, c, &mut vs) {
-        Made::All(t, n) => match case_of(pack, work, words, proof, l, t, g, c, &vs[0..n]) {
+        Ok((t, n)) => match case_of(pack, work, words, proof, l, t, g, c, &vs[0..n]) {
             Proved::Line(u, last) => {
                 put_case(cases, at, last, first, n);
                 Cases::All(u, at + Case::VARIABLES + n)
@@ -135,6 +131,6 @@ pub fn induct_case(
             Proved::Fails(u) => Cases::Fails(u),
             Proved::Refused(x) => Cases::Refused(x),
         },
-        Made::Refused(x) => Cases::Refused(x),
+        Err(x) => Cases::Refused(x),
     }
 }

@@ -3,7 +3,7 @@ ghost use Rattle.emit_state.specs.Holding.{lends, Lined};
 ghost use Rattle.emit_case.specs.Asked.{AskedFor, AnswersFor, Termed};
 ghost use Rattle.emit_case.specs.Runs.{goal_run};
 
-use emit_replace::put::{Replaced, put_for};
+use emit_replace::put::put_for;
 use emit_search::prove::chain;
 use emit_state::places::Places;
 use emit_state::standing::{Proved, Standing};
@@ -42,7 +42,7 @@ pub fn case_goal(
     ensures line { Lined result }
 {
     match put_for(work, words, l, m, g.eigen, term, g.judgment) {
-        Replaced::As(t, q) => chain(pack, work, words, proof, l, t, q, Level::CASE),
-        Replaced::Refused(x) => Proved::Refused(x),
+        Ok((t, q)) => chain(pack, work, words, proof, l, t, q, Level::CASE),
+        Err(x) => Proved::Refused(x),
     }
 }

@@ -10,52 +10,30 @@ use crate::goal::{Inducting, case_goal};
 use base::limit::Limit;
 use definition::Refusal;
 use emit_maps::hyps::{drop_hyps, enter_hyp};
-use emit_replace::put::{Replaced, put_for};
+use emit_replace::put::put_for;
 use emit_state::places::Places;
 use emit_state::standing::{Proved, Standing};
 use emit_words::state::write_hyp;
 use memo::part::clear;
-
-// The pattern that is supposed, with the state; or a short buffer.
-#[derive(Clone, Copy)]
-pub enum Hypothesis {
-    Of(Standing, u32),
-    Refused(Refusal),
-}
-
-// The hypotheses are entered, or a buffer is short.
-#[derive(Clone, Copy)]
-pub enum Hypotheses {
-    All(Standing),
-    Refused(Refusal),
-}
 
 // Pattern `h` is supposed by line `n`: the failures are forgotten.
 fn enter_hypothesis(work: &mut [u32], l: Places, m: Standing, h: u32, n: u32) -> Standing
     requires { Entering work.old l m × (h < l.room) × (n < nothing) }
     ensures { Entered work.old work.new l m h n result }
 {
-    let store = m.store;
-    let old = m.failed;
     let maps = l.maps();
     enter_hyp(work, maps, h, n);
     let from = l.failed();
     let to = l.replaced();
-    let failed = clear(work, from, to, old);
+    let failed = clear(work, from, to, m.failed);
     Standing {
-        store: store,
-        text: m.text,
-        steps: m.steps,
-        definitions: m.definitions,
-        variables: m.variables,
-        inductions: m.inductions,
-        trail: m.trail,
-        failed: failed,
+        failed,
         hyps: m.hyps + 1,
+        ..m
     }
 }
 
-// The judgment of variable `v` is supposed.
+// The judgment of variable `v` is supposed: the state then, and the judgment's pattern; or a buffer is short.
 fn suppose_one(
     pack: &[u8],
     work: &mut [u32],
@@ -65,21 +43,19 @@ fn suppose_one(
     m: Standing,
     g: Inducting,
     v: u32,
-) -> Hypothesis
+) -> Result<(Standing, u32), Refusal>
     requires { AskedFor (lends pack.now work.old words.old proof.old) l m (Termed g v) × (m.hyps < nothing) }
     ensures { SupposesOne (lends pack.now work.old words.old proof.old) (lends pack.now work.new words.new proof.new) l m g v result }
 {
-    match put_for(work, words, l, m, g.eigen, v, g.judgment) {
-        Replaced::As(t, h) => match write_hyp(pack, work, words, proof, l, t, h) {
-            Proved::Line(u, n) => Hypothesis::Of(enter_hypothesis(work, l, u, h, n), h),
-            Proved::Fails(u) => Hypothesis::Of(u, h),
-            Proved::Refused(x) => Hypothesis::Refused(x),
-        },
-        Replaced::Refused(x) => Hypothesis::Refused(x),
+    let (t, h) = put_for(work, words, l, m, g.eigen, v, g.judgment)?;
+    match write_hyp(pack, work, words, proof, l, t, h) {
+        Proved::Line(u, n) => Ok((enter_hypothesis(work, l, u, h, n), h)),
+        Proved::Fails(u) => Ok((u, h)),
+        Proved::Refused(x) => Err(x),
     }
 }
 
-// The judgment is supposed of each of the variables `rs`; `hs` gets the patterns that are supposed.
+// The judgment is supposed of each of the variables `rs`; `hs` gets the patterns that are supposed. Refused where a buffer is short.
 fn suppose_each(
     pack: &[u8],
     work: &mut [u32],
@@ -90,25 +66,17 @@ fn suppose_each(
     g: Inducting,
     rs: &[u32],
     hs: &mut [u32],
-) -> Hypotheses
+) -> Result<Standing, Refusal>
     requires { AskedFor (lends pack.now work.old words.old proof.old) l m (Recursive g rs.now) × (length rs.now ≤ length hs.old) × (m.hyps ≡ 0) }
     ensures { SupposesAll (lends pack.now work.old words.old proof.old) (lends pack.now work.new words.new proof.new) l m g rs.now hs.new result }
 {
     let mut t = m;
-    let mut i: usize = 0;
-    while i < rs.len() {
-        match suppose_one(pack, work, words, proof, l, t, g, rs[i]) {
-            Hypothesis::Of(u, h) => {
-                t = u;
-                hs[i] = h;
-            }
-            Hypothesis::Refused(x) => {
-                return Hypotheses::Refused(x);
-            }
-        }
-        i += 1;
+    for (i, &r) in rs.iter().enumerate() {
+        let (u, h) = suppose_one(pack, work, words, proof, l, t, g, r)?;
+        t = u;
+        hs[i] = h;
     }
-    Hypotheses::All(t)
+    Ok(t)
 }
 
 // The hypotheses `hs` are out of scope: the failures are forgotten.
@@ -116,23 +84,15 @@ fn drop_hypotheses(work: &mut [u32], l: Places, m: Standing, hs: &[u32]) -> Stan
     requires { Dropping work.old l m hs.now }
     ensures { Dropped work.old work.new l m hs.now result }
 {
-    let store = m.store;
-    let old = m.failed;
     let maps = l.maps();
     drop_hyps(work, maps, hs, hs.len());
     let from = l.failed();
     let to = l.replaced();
-    let failed = clear(work, from, to, old);
+    let failed = clear(work, from, to, m.failed);
     Standing {
-        store: store,
-        text: m.text,
-        steps: m.steps,
-        definitions: m.definitions,
-        variables: m.variables,
-        inductions: m.inductions,
-        trail: m.trail,
-        failed: failed,
+        failed,
         hyps: 0,
+        ..m
     }
 }
 
@@ -155,11 +115,11 @@ pub fn prove_supposing(
     let mut hs = [0; Limit::ARITY];
     let many = rs.len();
     match suppose_each(pack, work, words, proof, l, m, g, rs, &mut hs) {
-        Hypotheses::All(t) => match case_goal(pack, work, words, proof, l, t, g, term) {
+        Ok(t) => match case_goal(pack, work, words, proof, l, t, g, term) {
             Proved::Line(u, n) => Proved::Line(drop_hypotheses(work, l, u, &hs[0..many]), n),
             Proved::Fails(u) => Proved::Fails(drop_hypotheses(work, l, u, &hs[0..many])),
             Proved::Refused(x) => Proved::Refused(x),
         },
-        Hypotheses::Refused(x) => Proved::Refused(x),
+        Err(x) => Proved::Refused(x),
     }
 }

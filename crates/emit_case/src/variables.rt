@@ -11,17 +11,9 @@ use definition::{Buffer, Refusal};
 use emit_lines::line::put_var_line;
 use emit_maps::maps::Maps;
 use emit_maps::trail::enter;
-use emit_replace::put::Replaced;
 use emit_state::places::Places;
 use emit_state::standing::Standing;
 use pack_read::symbol::{symbol_arity, symbol_input};
-
-// The variables of a case with the state, and how many; or a short buffer.
-#[derive(Clone, Copy)]
-pub enum Made {
-    All(Standing, usize),
-    Refused(Refusal),
-}
 
 // The numbers of case variables' patterns: "case variable k is 2^31 - 1 + k".
 #[derive(Clone, Copy)]
@@ -31,7 +23,7 @@ impl Case {
     pub const FIRST: u32 = 2147483647;
 }
 
-// Pattern `v` is the next case variable: its line, and its name.
+// Pattern `v` is the next case variable: its line, and its name. Refused where the text is short.
 fn name_variable(
     pack: &[u8],
     work: &mut [u32],
@@ -41,7 +33,7 @@ fn name_variable(
     m: Standing,
     v: u32,
     sort: u32,
-) -> Replaced
+) -> Result<(Standing, u32), Refusal>
     requires { AskedFor (lends pack.now work.old words.now proof.old) l m (Unnamed v sort) }
     ensures { Makes (lends pack.now work.old words.now proof.old) (lends pack.now work.new words.now proof.new) l m (Unnamed v sort) (λ w. name_run w.setting v sort) result }
 {
@@ -49,29 +41,22 @@ fn name_variable(
     let hand = l.hand;
     let end = put_var_line(pack, work, proof, hand, m.text, k + 1, sort);
     if proof.len() < end {
-        return Replaced::Refused(Refusal::Short(Buffer::TEXT));
+        return Err(Refusal::Short(Buffer::TEXT));
     }
-    let store = m.store;
-    let failed = m.failed;
     let maps = l.maps();
     let trail = enter(work, maps, Maps::NAMES, v, k, m.trail);
-    Replaced::As(
+    Ok((
         Standing {
-            store: store,
             text: end,
-            steps: m.steps,
-            definitions: m.definitions,
             variables: k + 1,
-            inductions: m.inductions,
-            trail: trail,
-            failed: failed,
-            hyps: m.hyps,
+            trail,
+            ..m
         },
         v,
-    )
+    ))
 }
 
-// A new case variable of a sort: its pattern, then its line.
+// A new case variable of a sort: its pattern, then its line. Refused where a buffer is short.
 fn case_variable(
     pack: &[u8],
     work: &mut [u32],
@@ -80,18 +65,16 @@ fn case_variable(
     l: Places,
     m: Standing,
     sort: u32,
-) -> Replaced
+) -> Result<(Standing, u32), Refusal>
     requires { AskedFor (lends pack.now work.old words.old proof.old) l m (SortGiven sort) }
     ensures { Makes (lends pack.now work.old words.old proof.old) (lends pack.now work.new words.new proof.new) l m (SortGiven sort) (λ w. variable_run w.setting sort) result }
 {
     let number = Case::FIRST + m.variables;
-    match intern(work, words, l, m, &[Pattern::VAR, number, sort]) {
-        Replaced::As(t, v) => name_variable(pack, work, words, proof, l, t, v, sort),
-        Replaced::Refused(x) => Replaced::Refused(x),
-    }
+    let (t, v) = intern(work, words, l, m, &[Pattern::VAR, number, sort])?;
+    name_variable(pack, work, words, proof, l, t, v, sort)
 }
 
-// The variables of constructor `c`, one for each of its inputs, in `vs`.
+// The variables of constructor `c`, one for each of its inputs, in `vs`, and how many there are; refused where a buffer is short.
 pub fn case_variables(
     pack: &[u8],
     work: &mut [u32],
@@ -101,29 +84,20 @@ pub fn case_variables(
     m: Standing,
     c: u32,
     vs: &mut [u32],
-) -> Made
+) -> Result<(Standing, usize), Refusal>
     requires { AskedFor (lends pack.now work.old words.old proof.old) l m (Constructor c) × (length vs.old ≡ most_arity) }
     ensures { MakesVariables (lends pack.now work.old words.old proof.old) (lends pack.now work.new words.new proof.new) l m c vs.new result }
 {
-    let hand = l.hand;
-    let catalog = hand.catalog;
+    let catalog = l.hand.catalog;
     let n = symbol_arity(pack, work, catalog, c as usize);
     let mut t = m;
-    let mut i: usize = 0;
-    while i < n {
+    for i in 0..n {
         let sort = symbol_input(pack, work, catalog, c as usize, i);
-        match case_variable(pack, work, words, proof, l, t, sort) {
-            Replaced::As(u, v) => {
-                t = u;
-                vs[i] = v;
-            }
-            Replaced::Refused(x) => {
-                return Made::Refused(x);
-            }
-        }
-        i += 1;
+        let (u, v) = case_variable(pack, work, words, proof, l, t, sort)?;
+        t = u;
+        vs[i] = v;
     }
-    Made::All(t, n)
+    Ok((t, n))
 }
 
 // Those of the variables `vs` of constructor `c` that have a sort, in `rs`, and how many they are.
@@ -139,16 +113,13 @@ pub fn recursive(
     requires { Filtering pack.now work.now l c vs.now rs.old }
     ensures { Filters pack.now work.now l sort c vs.now rs.new result }
 {
-    let hand = l.hand;
-    let catalog = hand.catalog;
+    let catalog = l.hand.catalog;
     let mut many: usize = 0;
-    let mut i: usize = 0;
-    while i < vs.len() {
+    for (i, &v) in vs.iter().enumerate() {
         if symbol_input(pack, work, catalog, c as usize, i) == sort {
-            rs[many] = vs[i];
+            rs[many] = v;
             many += 1;
         }
-        i += 1;
     }
     many
 }

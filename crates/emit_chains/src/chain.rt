@@ -5,8 +5,6 @@ ghost use Rattle.base.specs.Outside.{Outside};
 ghost use Rattle.emit_chains.specs.Chain.{Put};
 ghost use Rattle.emit_chains.specs.Places.{firsts, links, Within};
 
-use buffer::zero::zero_words;
-
 // Where chains stand in work. A word of theirs is 0 or a number and one: the first of a key's chain, and the one behind a number.
 #[derive(Clone, Copy)]
 pub struct Chains {
@@ -28,7 +26,7 @@ pub fn clear_chains(work: &mut [u32], chains: Chains)
 {
     let from = chains.first;
     let to = from + chains.keys;
-    zero_words(&mut work[from..to]);
+    work[from..to].fill(0);
 }
 
 // Number `i` becomes the first of the chain of `key`. What stands between the first words and the links is left open.

@@ -17,9 +17,8 @@ pub fn chain_constructors(pack: &[u8], work: &mut [u32], c: Catalog, chains: Cha
     ensures frame { Outside chains.first (chains.next + chains.items) work.old work.new }
 {
     clear_chains(work, chains);
-    let mut h = c.count(work, Catalog::SYMBOLS);
-    while 0 < h {
-        h -= 1;
+    let many = c.count(work, Catalog::SYMBOLS);
+    for h in (0..many).rev() {
         let output = symbol_output(pack, work, c, h) as usize;
         put_keyed(work, chains, output, h);
     }

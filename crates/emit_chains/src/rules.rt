@@ -18,9 +18,8 @@ pub fn chain_rules(pack: &[u8], work: &mut [u32], c: Catalog, chains: Chains)
     ensures frame { Outside chains.first (chains.next + chains.items) work.old work.new }
 {
     clear_chains(work, chains);
-    let mut r = c.count(work, Catalog::RULES);
-    while 0 < r {
-        r -= 1;
+    let many = c.count(work, Catalog::RULES);
+    for r in (0..many).rev() {
         let head = rule_head(pack, work, c, r) as usize;
         put_keyed(work, chains, head, r);
     }

@@ -1,4 +1,5 @@
 -- One candidate for an output: its judgment, then an attempt at a proof.
+use Rattle.std.specs.Prelude.{Ok, Err}
 use Rattle.std.specs.Prelude.{◌≡◌, refl, List, ◌∷◌, ℕ}
 use Rattle.std.proofs.Common.{sym, subst, ◌∙◌}
 use Rattle.std.proofs.Math.Path.{ap}
@@ -31,7 +32,6 @@ use Rattle.emit_induct.specs.Cases.{Plain}
 use Rattle.emit_induct.specs.Candidates.{arguments_in, filling, Fitting, try_run, TryTo, TryAnswers}
 use Rattle.emit_case.specs.declared.goal.Inducting.{Inducting}
 use Rattle.emit_induct.specs.declared.candidates.Output.{Output}
-use Rattle.emit_replace.specs.declared.put.Replaced.TheVariants.{As, Refused as NoRoom}
 
 -- ---- an attempt
 module _ {A : Type 0} (l : Lent) (m : Search A) (e : Emitter) where
@@ -77,14 +77,14 @@ module _ (pack work words proof work' words' : List ℕ) (l : Places) (m : Stand
   trying w = try_run w.setting x.predicate (arguments_in args) c
 
   -- there is no room for its judgment
-  pub try_short : (r : Refusal) → Interns work work' words words' l m zs (NoRoom r) → TryAnswers ahead between l m x args c (Refused r)
+  pub try_short : (r : Refusal) → Interns work work' words words' l m zs (Err r) → TryAnswers ahead between l m x args c (Refused r)
   unfolding try_run
   try_short r I = record {
     grown = tt;
     comes = λ w e R F. then_refused w.lent (interned judged) _ e r (ap (λ (n : Node). outcome w.lent (interned n e)) (sym (key-node x.predicate (filling args c) zs z)) ∙ I.comes pack proof w e R);
   }
 
-  module _ (t : Standing) (j : ℕ) (I : Interns work work' words words' l m zs (As t j)) where
+  module _ (t : Standing) (j : ℕ) (I : Interns work work' words words' l m zs (Ok (t, j))) where
     -- the state with its judgment
     record Judged (w : World) (e : Emitter) : Type 0 where
       state : Emitter

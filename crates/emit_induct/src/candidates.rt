@@ -14,7 +14,6 @@ use base::limit::Limit;
 use definition::Refusal;
 use emit_case::goal::Inducting;
 use emit_case::intern::intern;
-use emit_replace::put::Replaced;
 use emit_state::places::Places;
 use emit_state::standing::{Proved, Standing};
 
@@ -50,10 +49,8 @@ fn lay_filled(p: u32, args: &[u32], c: u32, key: &mut [u32]) -> usize
     ensures { (result ≡ length args.now + 1) × (take result key.new ≡ p ∷ filled c (arguments_in args.now)) }
 {
     key[0] = p;
-    let mut i = 0;
-    while i < args.len() {
-        key[i + 1] = fill(args[i], c);
-        i += 1;
+    for (i, &a) in args.iter().enumerate() {
+        key[i + 1] = fill(a, c);
     }
     args.len() + 1
 }
@@ -77,7 +74,7 @@ fn try_candidate(
     let mut key = [0; Limit::KEY];
     let n = lay_filled(x.predicate, args, c, &mut key);
     match intern(work, words, l, m, &key[0..n]) {
-        Replaced::As(t, j) => {
+        Ok((t, j)) => {
             let g = Inducting {
                 eigen: x.eigen,
                 sort: x.sort,
@@ -85,7 +82,7 @@ fn try_candidate(
             };
             prove_cut(pack, work, words, proof, l, t, g, cases)
         }
-        Replaced::Refused(r) => Proved::Refused(r),
+        Err(r) => Proved::Refused(r),
     }
 }
 

@@ -33,10 +33,8 @@ pub fn put_numbers(text: &mut [u8], at: usize, numbers: &[u32]) -> usize
     ensures { Adds text.old text.new at (joined (map decimal numbers.now)) result }
 {
     let mut end = at;
-    let mut i: usize = 0;
-    while i < numbers.len() {
-        end = put_listed(text, end, i, numbers[i]);
-        i += 1;
+    for (i, &n) in numbers.iter().enumerate() {
+        end = put_listed(text, end, i, n);
     }
     end
 }
@@ -54,10 +52,8 @@ pub fn put_variables(text: &mut [u8], at: usize, u: u32, variables: &[u32]) -> u
     ensures { Adds text.old text.new at (blanked (map (variable_text (name_with u)) variables.now)) result }
 {
     let mut end = at;
-    let mut i: usize = 0;
-    while i < variables.len() {
-        end = put_blanked_variable(text, end, u, variables[i]);
-        i += 1;
+    for &k in variables {
+        end = put_blanked_variable(text, end, u, k);
     }
     end
 }

@@ -10,10 +10,8 @@ pub fn put_name(text: &mut [u8], at: usize, u: u32) -> usize
     ensures { Adds text.old text.new at (name_with u) result }
 {
     let mut end = put_byte(text, at, b'L');
-    let mut i: u32 = 0;
-    while i < u {
+    for _i in 0..u {
         end = put_byte(text, end, b'_');
-        i += 1;
     }
     end
 }

@@ -71,10 +71,8 @@ pub fn put_words(
     ensures { Puts pack.now work.now text.old text.new s at (λ P L. blanked (map (word_text P L) (map word_in words.now))) result }
 {
     let mut end = at;
-    let mut i: usize = 0;
-    while i < words.len() {
-        end = put_blanked_word(pack, work, text, s, end, Word(words[i]));
-        i += 1;
+    for &w in words {
+        end = put_blanked_word(pack, work, text, s, end, Word(w));
     }
     end
 }

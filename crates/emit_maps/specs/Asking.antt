@@ -1,4 +1,5 @@
 -- A map asked, and all of them emptied.
+use Rattle.std.specs.Prelude.{Some, None}
 use Rattle.std.specs.Prelude.{◌≡◌, List, ℕ, ◌+◌, ◌-◌, ◌*◌, ◌≤◌, ◌<◌, length, get_or, take, drop, replicate}
 use Rattle.std.proofs.Math.Path.{sym, ap}
 use Rattle.std.proofs.Common.{◌∙◌, arith}
@@ -8,17 +9,16 @@ use Rattle.emit_maps.specs.Map.{told, told_more, Laid, start, mapped_none, word-
 use Rattle.emit_maps.specs.Trail.{Counted}
 use Rattle.emit_maps.specs.Holds.{Looks, Begins}
 use Rattle.emit_maps.specs.declared.maps.Maps.{Maps}
-use Rattle.emit_maps.specs.declared.maps.Recall.TheVariants.{Number, Nothing}
 
 -- ---- the word of p in map k stands at a place
 module _ (work : List ℕ) (m : Maps) (k p at : ℕ) (h : p < m.room) (e : at ≡ start m k + p) where
   -- it is 0
-  pub looked_nothing : get_or work at 0 ≡ 0 → Looks work m k p Nothing
+  pub looked_nothing : get_or work at 0 ≡ 0 → Looks work m k p None
   unfolding told
   looked_nothing z = record { value = λ bs B. sym (B.values p h ∙ ap (λ (i : ℕ). told (get_or work i 0)) (sym e) ∙ ap told z) }
 
   -- it is not
-  pub looked_number : (get_or work at 0 ≡ 0 → ⊥) → Looks work m k p (Number (get_or work at 0 - 1))
+  pub looked_number : (get_or work at 0 ≡ 0 → ⊥) → Looks work m k p (Some (get_or work at 0 - 1))
   looked_number d = record { value = λ bs B. sym (B.values p h ∙ ap (λ (i : ℕ). told (get_or work i 0)) (sym e) ∙ told_more (get_or work at 0) (get_or work at 0 - 1) (omega arith)) }
 
 -- ---- the maps were lent and came back as zeros

@@ -1,4 +1,5 @@
 -- What the functions over the maps leave, and the five maps together.
+use Rattle.std.specs.Prelude.{Option as Optional, Some, None}
 use Rattle.std.specs.Prelude.{◌≡◌, List, [], ◌∷◌, ℕ, ◌+◌, ◌*◌, ◌≤◌, ◌<◌, get_or}
 use Rattle.std.proofs.Math.Option.{Option, none, some}
 use Rattle.std.proofs.Common.{arith}
@@ -8,16 +9,14 @@ use Rattle.base.specs.Outside.{Outside}
 use Rattle.emit_maps.specs.Map.{Mapped, start, mapped_same, mapped_nothing, word-within}
 use Rattle.emit_maps.specs.Trail.{Trailed, Counted, trailed_zero}
 use Rattle.emit_maps.specs.declared.maps.Maps.{Maps}
-use Rattle.emit_maps.specs.declared.maps.Recall.{Recall}
-use Rattle.emit_maps.specs.declared.maps.Recall.TheVariants.{Number, Nothing}
 
 -- the answer as an option
-abbrev pub recalled : Recall → Option ℕ
-recalled (Number n) = some n
-recalled Nothing = none
+abbrev pub recalled : Optional ℕ → Option ℕ
+recalled (Some n) = some n
+recalled None = none
 
 -- the answer is what map k has for p
-pub record Looks (work : List ℕ) (m : Maps) (k p : ℕ) (r : Recall) : Type 0 where
+pub record Looks (work : List ℕ) (m : Maps) (k p : ℕ) (r : Optional ℕ) : Type 0 where
   pub value : (bs : List Bound) → Mapped work (start m k) m.room bs → recalled r ≡ value_of p bs
 
 -- all maps are empty

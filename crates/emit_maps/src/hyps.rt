@@ -20,10 +20,8 @@ pub fn drop_hyps(work: &mut [u32], m: Maps, keys: &[u32], n: usize)
     requires { Laid work.old m × (n ≤ length keys.now) × ((i : ℕ) → i < n → get_or keys.now i 0 < m.room) }
     ensures { Drops work.old work.new m keys.now n }
 {
-    let mut i = 0;
-    while i < n {
-        let at = place(m, Maps::HYPS, keys[i]);
+    for &key in &keys[..n] {
+        let at = place(m, Maps::HYPS, key);
         work[at] = 0;
-        i += 1;
     }
 }

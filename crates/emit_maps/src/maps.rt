@@ -3,8 +3,6 @@ ghost use Rattle.std.specs.Prelude.{◌≡◌, ◌+◌, ◌*◌, ◌<◌, ◌≤
 ghost use Rattle.emit_maps.specs.Map.{start, Laid, many_maps, places_named, words_each};
 ghost use Rattle.emit_maps.specs.Holds.{Looks, Begins};
 
-use buffer::zero::zero_words;
-
 // Where the maps stand in work, one behind the other, and behind them the trail. A map's word is 0, or a number and one.
 #[derive(Clone, Copy)]
 pub struct Maps {
@@ -12,13 +10,6 @@ pub struct Maps {
     pub at: usize,
     // How many patterns a map has a word for.
     pub room: usize,
-}
-
-// What a map has for a pattern.
-#[derive(Clone, Copy)]
-pub enum Recall {
-    Number(u32),
-    Nothing,
 }
 
 impl Maps {
@@ -46,16 +37,16 @@ pub fn place(m: Maps, map: usize, p: u32) -> usize
     m.at + map * m.room + p as usize
 }
 
-// What a map has for `p`.
-pub fn look(work: &[u32], m: Maps, map: usize, p: u32) -> Recall
+// What a map has for `p`, if it has something.
+pub fn look(work: &[u32], m: Maps, map: usize, p: u32) -> Option<u32>
     requires { Laid work.now m × (map < many_maps) × (p < m.room) }
     ensures { Looks work.now m map p result }
 {
     let word = work[place(m, map, p)];
     if word == 0 {
-        return Recall::Nothing;
+        return None;
     }
-    Recall::Number(word - 1)
+    Some(word - 1)
 }
 
 // All maps become empty, whatever stands there. A trail of no entries goes with them.
@@ -65,5 +56,5 @@ pub fn begin(work: &mut [u32], m: Maps)
 {
     let from = m.at;
     let to = from + Maps::MAPS * m.room;
-    zero_words(&mut work[from..to]);
+    work[from..to].fill(0);
 }

@@ -46,9 +46,7 @@ pub fn undo(work: &mut [u32], m: Maps, from: usize, to: usize)
     requires { Laid work.old m × (from ≤ to) × (to ≤ restorable * m.room) × Entries work.old m from to }
     ensures { Undoes work.old work.new m from to }
 {
-    let mut i = to;
-    while from < i {
-        i -= 1;
+    for i in (from..to).rev() {
         clear_entry(work, m, i);
     }
 }

@@ -5,7 +5,7 @@ use Rattle.base.specs.declared.stack.Stack.{Stack}
 use Rattle.emit_match.specs.Places.{Stays, stays_none, stays_then, given_reads, given_on}
 use Rattle.emit_match.specs.Partly.{Asked, Turned, Going, Matched}
 use Rattle.emit_match.specs.declared.places.Matching.{Matching}
-use Rattle.emit_match.specs.declared.turn.Turn.TheVariants.{Next, Done, Fails}
+use Rattle.check_steps.specs.declared.matching.Turn.TheVariants.{Next, Done, Fails}
 
 module _ (bytes work words : List ℕ) (m : Matching) (r vars : ℕ) (t : Stack) (i : ℕ) (A : Asked bytes work words m r vars t i) where
   -- ahead of the first turn

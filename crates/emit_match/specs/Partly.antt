@@ -20,8 +20,8 @@ use Rattle.emit_maps.specs.Map.{Mapped}
 use Rattle.emit_match.specs.Places.{Stays, Given}
 use Rattle.emit_match.specs.Pushed.{ArgumentsOn}
 use Rattle.emit_match.specs.declared.places.Matching.{Matching}
-use Rattle.emit_match.specs.declared.turn.Turn.{Turn}
-use Rattle.emit_match.specs.declared.turn.Turn.TheVariants.{Next, Done, Fails}
+use Rattle.check_steps.specs.declared.matching.Turn.{Turn}
+use Rattle.check_steps.specs.declared.matching.Turn.TheVariants.{Next, Done, Fails}
 
 -- rule r is matched up to word i
 pub record Partly (P : Pack) (s : List Node) (m : Matching) (r : ℕ) (work : List ℕ) (t : Stack) (i : ℕ) (bs : List Bound) : Type 0 where

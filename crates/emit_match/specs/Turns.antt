@@ -1,4 +1,5 @@
 -- What a turn of matching comes to, in the order in which code tests.
+use Rattle.std.specs.Prelude.{Some}
 use Rattle.std.specs.Prelude.{◌≡◌, true, false, ℕ, suc, ◌+◌, ◌-◌, ◌≤◌, ◌<◌, eqb, get_or, drop}
 use Rattle.std.proofs.Math.Path.{sym, ap, subst}
 use Rattle.std.proofs.Common.{◌∙◌, arith, length-append, length-drop, drop-cons}
@@ -14,7 +15,6 @@ use Rattle.emission.specs.Patterns.{over}
 use Rattle.base.specs.Outside.{Outside}
 use Rattle.base.specs.Stack.{stacked, length-stacked, stacked-same, Took}
 use Rattle.base.specs.declared.stack.Stack.{Stack}
-use Rattle.base.specs.declared.stack.Popped.TheVariants.{Word}
 use Rattle.pack_read.specs.Reads.{rule_words}
 use Rattle.pack_read.specs.Held.{Proper}
 use Rattle.pack_read.specs.Clause.{words-most}
@@ -29,8 +29,8 @@ use Rattle.emit_match.specs.Values.{Binds}
 use Rattle.emit_match.specs.Pushed.{ArgumentsOn}
 use Rattle.emit_match.specs.Partly.{Partly, rest, SymbolTold, Goes}
 use Rattle.emit_match.specs.declared.places.Matching.{Matching}
-use Rattle.emit_match.specs.declared.turn.Turn.{Turn}
-use Rattle.emit_match.specs.declared.turn.Turn.TheVariants.{Next, Done, Fails}
+use Rattle.check_steps.specs.declared.matching.Turn.{Turn}
+use Rattle.check_steps.specs.declared.matching.Turn.TheVariants.{Next, Done, Fails}
 
 module _ (P : Pack) (Q : Proper P) (s : List Node) (S : SortedStore P s) (m : Matching) (r : ℕ) (l : r < length P.rules) (work : List ℕ) (L : Laid work m) (t : Stack) (i : ℕ) (bs : List Bound) (M : Partly P s m r work t i bs) where
   abbrev W : List ℕ
@@ -56,7 +56,7 @@ module _ (P : Pack) (Q : Proper P) (s : List Node) (S : SortedStore P s) (m : Ma
       (rw (pending-none P vars (drop i W) (subst (Pending P vars (drop i W)) z M.pending), f), M.values)
 
   -- a pattern is left, and a word
-  module _ (p : ℕ) (u : Stack) (took : Took (stacked t.at t.len work) t.at work (Word p u)) where
+  module _ (p : ℕ) (u : Stack) (took : Took (stacked t.at t.len work) t.at work (Some (p, u))) where
     on_top : stacked m.stack t.len work ≡ p ∷ stacked m.stack u.len work
     on_top = ap (λ (a : ℕ). stacked a t.len work) (sym M.base) ∙ took.2 ∙ ap (λ (a : ℕ). p ∷ stacked a u.len work) M.base
 

@@ -10,10 +10,8 @@ pub fn push_arguments(work: &mut [u32], key: &[u32], s: Stack) -> Stack
     ensures { ArgumentsOn work.old work.new key.now s result }
 {
     let mut on = s;
-    let mut i = key.len() - 1;
-    while 0 < i {
+    for i in (1..key.len()).rev() {
         on = on.push(work, key[i]);
-        i -= 1;
     }
     on
 }

@@ -10,9 +10,10 @@ ghost use Rattle.emit_match.specs.Partly.{Asked, Matched};
 ghost use Rattle.emit_match.specs.Begins.{Begun, Answers};
 
 use crate::places::Matching;
-use crate::turn::{Turn, match_turn};
+use crate::turn::match_turn;
 use crate::values::clear_values;
 use base::stack::Stack;
+use check_steps::matching::Turn;
 use pack_read::rule::{pass_terms, rule_premises, rule_vars};
 use pack_tables::catalog::Catalog;
 
@@ -30,8 +31,7 @@ fn begin(work: &mut [u32], m: Matching, p: u32) -> Stack
     requires { Laid work.old m }
     ensures { Begun work.old work.new m p result }
 {
-    let values = m.values;
-    clear_values(work, values);
+    clear_values(work, m.values);
     let empty = Stack {
         at: m.stack,
         len: 0,

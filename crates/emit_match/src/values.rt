@@ -7,7 +7,6 @@ ghost use Rattle.emit_maps.specs.Map.{Mapped};
 ghost use Rattle.emit_match.specs.Values.{Binds};
 
 use base::limit::Limit;
-use buffer::zero::zero_words;
 
 // No variable has a value, whatever stands from `at` on.
 pub fn clear_values(work: &mut [u32], at: usize)
@@ -16,7 +15,7 @@ pub fn clear_values(work: &mut [u32], at: usize)
     ensures frame { Outside at (at + most_variables) work.old work.new }
 {
     let to = at + Limit::VARIABLES;
-    zero_words(&mut work[at..to]);
+    work[at..to].fill(0);
 }
 
 // Variable `k` is given pattern `p`: its first value is kept, every later one must be the same.

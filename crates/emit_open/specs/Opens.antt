@@ -1,4 +1,5 @@
 -- The walk: all marks are cleared and the pattern is met; with each turn one node that waits is taken; at the end the marks are the definition's.
+use Rattle.std.specs.Prelude.{Some}
 use Rattle.std.specs.Prelude.{◌≡◌, false, ltb, length, replicate}
 use Rattle.std.proofs.Math.Path.{refl, sym, ap, subst}
 use Rattle.std.proofs.Common.{◌∙◌, arith}
@@ -14,7 +15,6 @@ use Rattle.base.specs.Outside.{Outside, outside_then, outside_wider}
 use Rattle.base.specs.Part.{part, put, part_at}
 use Rattle.base.specs.Stack.{stacked, length-stacked, Took}
 use Rattle.base.specs.declared.stack.Stack.{Stack}
-use Rattle.base.specs.declared.stack.Popped.TheVariants.{Word}
 use Rattle.theory.specs.Unification.Count.{count_most}
 use Rattle.theory.specs.Walks.Reaching.{Reaching, reaching_first, reaching_ends}
 use Rattle.store.specs.Stored.{nodes}
@@ -51,7 +51,7 @@ module _ (first work words : List ℕ) (l : Opening) (st : Store) (met : Memo) (
   pub going_inside : todo.at + todo.len ≤ length work
   going_inside = let H = G.given in omega (arith, G.base, G.room, H.stack, H.table, H.gap, H.order, H.fits, given_len work words l st met H)
 
-  module _ (q : ℕ) (rest : Stack) (T : Took (waiting work todo) todo.at work (Word q rest)) where
+  module _ (q : ℕ) (rest : Stack) (T : Took (waiting work todo) todo.at work (Some (q, rest))) where
     -- one less waits
     pub going_less : suc rest.len ≡ todo.len
     going_less =

@@ -8,9 +8,8 @@ ghost use Rattle.emit_open.specs.Takes.{Ready, Takes};
 ghost use Rattle.emit_open.specs.Opens.{Opens};
 
 use base::id::Pattern;
-use base::stack::{Popped, Stack};
-use buffer::zero::zero_words;
-use memo::memo::{Known, Memo};
+use base::stack::Stack;
+use memo::memo::Memo;
 use memo::part::{clear, get, put};
 use store::nodes::Store;
 
@@ -31,12 +30,10 @@ fn meet(work: &mut [u32], l: Opening, met: Memo, todo: Stack, x: u32) -> Stack
     requires { Meetable work.old l met todo x }
     ensures { Meets (met_in work.old l met x) work.old work.new l met todo x result }
 {
-    let from = l.met;
-    let to = l.past;
-    match get(work, from, to, met, x as usize) {
-        Known::Value(_) => todo,
-        Known::Nothing => {
-            put(work, from, to, met, x as usize, 0);
+    match get(work, l.met, l.past, met, x as usize) {
+        Some(_) => todo,
+        None => {
+            put(work, l.met, l.past, met, x as usize, 0);
             todo.push(work, x)
         }
     }
@@ -56,14 +53,10 @@ fn meet_arguments(
     requires { Taking work.old words.now l st met todo q.0 k }
     ensures { MeetsAll work.old work.new words.now l st met todo q.0 result }
 {
-    let a = l.index;
-    let e = l.stack;
     let mut on = todo;
-    let mut j: usize = 0;
-    while j < k {
-        let x = st.argument(&work[a..e], words, q, j);
+    for j in 0..k {
+        let x = st.argument(&work[l.index..l.stack], words, q, j);
         on = meet(work, l, met, on, x);
-        j += 1;
     }
     on
 }
@@ -73,21 +66,18 @@ fn note(work: &mut [u32], words: &[u32], l: Opening, st: Store, q: Pattern, c: u
     requires { Notable work.old words.now l st q.0 c i }
     ensures { Notes work.old work.new words.now l st q.0 c i }
 {
-    let a = l.index;
-    let e = l.stack;
-    if st.head(&work[a..e], words, q) != c {
+    if st.head(&work[l.index..l.stack], words, q) != c {
         return;
     }
-    if st.arity(&work[a..e], words, q) <= i {
+    if st.arity(&work[l.index..l.stack], words, q) <= i {
         return;
     }
-    let x = Pattern(st.argument(&work[a..e], words, q, i));
-    if st.head(&work[a..e], words, x) != Pattern::VAR {
+    let x = Pattern(st.argument(&work[l.index..l.stack], words, q, i));
+    if st.head(&work[l.index..l.stack], words, x) != Pattern::VAR {
         return;
     }
-    let v = st.argument(&work[a..e], words, x, 0);
-    let at = l.marks + v as usize;
-    work[at] = 1;
+    let v = st.argument(&work[l.index..l.stack], words, x, 0);
+    work[l.marks + v as usize] = 1;
 }
 
 // Node `q`, which was met, is taken: what it has is marked, and what is below it is met.
@@ -105,13 +95,11 @@ fn take(
     requires { Ready work.old words.now l st met todo q.0 c i }
     ensures { Takes work.old work.new words.now l st met todo q.0 c i result }
 {
-    let a = l.index;
-    let e = l.stack;
-    if st.head(&work[a..e], words, q) == Pattern::VAR {
+    if st.head(&work[l.index..l.stack], words, q) == Pattern::VAR {
         return todo;
     }
     note(work, words, l, st, q, c, i);
-    let k = st.arity(&work[a..e], words, q);
+    let k = st.arity(&work[l.index..l.stack], words, q);
     meet_arguments(work, words, l, st, met, todo, q, k)
 }
 
@@ -129,23 +117,15 @@ pub fn at(
     requires { Given work.old words.now l st met × (p.0 < length (nodes words.now st)) × Bounded words.now l st p.0 c i }
     ensures { Opens work.old work.new words.now l st p.0 c i result }
 {
-    let from = l.marks;
-    let to = l.end;
-    zero_words(&mut work[from..to]);
+    work[l.marks..l.end].fill(0);
     let fresh = clear(work, l.met, l.past, met);
     let none = Stack {
         at: l.stack,
         len: 0,
     };
     let mut todo = meet(work, l, fresh, none, p.0);
-    loop {
-        match todo.pop(work) {
-            Popped::Word(q, rest) => {
-                todo = take(work, words, l, st, fresh, rest, Pattern(q), c, i);
-            }
-            Popped::Empty => {
-                return fresh;
-            }
-        }
+    while let Some((q, rest)) = todo.pop(work) {
+        todo = take(work, words, l, st, fresh, rest, Pattern(q), c, i);
     }
+    fresh
 }

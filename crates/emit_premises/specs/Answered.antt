@@ -1,4 +1,5 @@
 -- A rule matched, then its premises built: that answers what was asked.
+use Rattle.std.specs.Prelude.{Option as Optional, Some, None, Ok, Err}
 use Rattle.std.specs.Prelude.{◌≡◌, refl, List, [], Bool, true, false, ℕ, ◌≤◌, ◌<◌, length, get_or, take}
 use Rattle.std.proofs.Common.{sym, ap, subst, ◌∙◌, arith, get_or-take, length-take-le}
 use Rattle.std.proofs.Math.Option.{Option, none, some}
@@ -39,8 +40,8 @@ use Rattle.emit_premises.specs.Outcome.{premises-lost, premises_fine, premises_s
 use Rattle.emit_premises.specs.Premised.{PremisesAsked, Premised}
 use Rattle.emit_premises.specs.Readied.{ready_sorted, ready_matched, ready_site}
 use Rattle.emit_premises.specs.declared.build.Built.{Built as Outcome}
-use Rattle.emit_premises.specs.declared.build.Built.TheVariants.{All, Lacks as Misses, Short}
-use Rattle.emit_premises.specs.declared.premises.Premises.TheVariants.{Built, Lacks, Refused}
+use Rattle.emit_premises.specs.declared.build.Built.TheVariants.{All, Lacks as Misses}
+use Rattle.emit_premises.specs.declared.premises.Premises.TheVariants.{Built, Lacks}
 
 module _ (pack work words : List ℕ) (l : Places) (m : Standing) (j r : ℕ) (A : PremisesAsked pack work words l m j r) (work₁ : List ℕ) (Y : Stays (matching_of l m.store) work work₁) where
   -- what matching there answered
@@ -56,7 +57,7 @@ module _ (pack work words : List ℕ) (l : Places) (m : Standing) (j r : ℕ) (A
   matched_to at q b b' f M = subst (λ (x : Bool). MatchedTo x) f (subst (λ (x : Matching). MatchedAt x b) q M)
 
   -- the conclusion does not match
-  pub answered-none : MatchedTo false → (qs : List ℕ) → Premised pack work work₁ words words qs l m j r (Lacks m)
+  pub answered-none : MatchedTo false → (qs : List ℕ) → Premised pack work work₁ words words qs l m j r (Ok (Lacks m))
   answered-none M qs = record {
     grown = omega arith;
     below = tt;
@@ -88,16 +89,16 @@ module _ (pack work words : List ℕ) (l : Places) (m : Standing) (j r : ℕ) (A
 
     module _ (work₂ words₂ qs : List ℕ) (same : length words₂ ≡ length words) where
       -- what building there answered
-      abbrev BuiltAt : Matching → Outcome → Type 0
+      abbrev BuiltAt : Matching → Optional Outcome → Type 0
       BuiltAt at x = BuiltTo pack work₁ words words₂ qs at r n x × Rests work₁ work₂ words₂ at x
 
       -- where the state has its words
-      abbrev pub BuiltBy : Outcome → Type 0
+      abbrev pub BuiltBy : Optional Outcome → Type 0
       BuiltBy x = BuiltAt (matching_of l m.store) x
 
       -- code says so of the place that it made, and of its own answer
-      pub built_by : (at : Matching) → at ≡ matching_of l m.store → (x x' : Outcome) → x ≡ x' → BuiltAt at x → BuiltBy x'
-      built_by at q x x' f K = subst (λ (y : Outcome). BuiltBy y) f (subst (λ (y : Matching). BuiltAt y x) q K)
+      pub built_by : (at : Matching) → at ≡ matching_of l m.store → (x x' : Optional Outcome) → x ≡ x' → BuiltAt at x → BuiltBy x'
+      built_by at q x x' f K = subst (λ (y : Optional Outcome). BuiltBy y) f (subst (λ (y : Matching). BuiltAt y x) q K)
 
       -- in a state that the buffers held
       module _ (proof : List ℕ) (w : World) (e : Emitter) (R : Ready (lends pack work words proof) l m w e) (h : Has w.setting e prop j) (k : r < length w.setting.pack.rules) where
@@ -125,7 +126,7 @@ module _ (pack work words : List ℕ) (l : Places) (m : Standing) (j r : ℕ) (A
         more o st q = subst (λ (t : List Node). Grows e.kept.store t) (ap (λ (b : BuiltAll). b.store) (built-from o st q)) (all_grows (rule_of P r).premises found.0 e.kept.store)
 
         -- with room for the patterns
-        came_fine : (o : Option (List ℕ)) (st : Store) → build_all (rule_of P r).premises found.0 s ≡ built_all o (nodes words₂ st) → Rests work₁ work₂ words₂ (matching_of l m.store) (All st)
+        came_fine : (o : Option (List ℕ)) (st : Store) → build_all (rule_of P r).premises found.0 s ≡ built_all o (nodes words₂ st) → Rests work₁ work₂ words₂ (matching_of l m.store) (Some (All st))
             → (e' : Emitter) × (◌≡◌ {A = Read (Tried (List ℕ))} (outcome w.lent (premises w.setting r j e)) (fine (record { result = o; state = e' }))) × Holding (lends pack work₂ words₂ proof) l (having_patterns st m) w e'
         came_fine o st q T =
             let H = ready_matched pack work words proof l m w e R work₁ Y in (
@@ -144,44 +145,44 @@ module _ (pack work words : List ℕ) (l : Places) (m : Standing) (j r : ℕ) (A
             (omega (arith, begins_long s words H.stored.placed.begins, ap (λ (t : List Node). length (pattern_words t)) H.nodes_are, H.pattern_lent))
 
         -- no fewer patterns
-        no_fewer : (o : Option (List ℕ)) (st : Store) → build_all (rule_of P r).premises found.0 s ≡ built_all o (nodes words₂ st) → Rests work₁ work₂ words₂ (matching_of l m.store) (All st) → m.store.len ≤ st.len
+        no_fewer : (o : Option (List ℕ)) (st : Store) → build_all (rule_of P r).premises found.0 s ≡ built_all o (nodes words₂ st) → Rests work₁ work₂ words₂ (matching_of l m.store) (Some (All st)) → m.store.len ≤ st.len
         no_fewer o st q T =
             let H = R.holding in
             omega (arith, grows_long e.kept.store (nodes words₂ st) (more o st q), ap length H.nodes_are, H.stored.placed.len, T.1.placed.len)
 
         -- the premises are patterns
-        inside : (st : Store) → build_all (rule_of P r).premises found.0 s ≡ built_all (some (take n qs)) (nodes words₂ st) → Rests work₁ work₂ words₂ (matching_of l m.store) (All st) → n ≤ length qs → (i : ℕ) → i < n → get_or qs i 0 < st.len
+        inside : (st : Store) → build_all (rule_of P r).premises found.0 s ≡ built_all (some (take n qs)) (nodes words₂ st) → Rests work₁ work₂ words₂ (matching_of l m.store) (Some (All st)) → n ≤ length qs → (i : ℕ) → i < n → get_or qs i 0 < st.len
         inside st q T few i c =
             let B = (builds_all (rule_of P r).premises found.0 s found.3).inside in
             let D : Below (length (nodes words₂ st)) (take n qs) = subst (λ (b : BuiltAll). IfSome (λ ps. Below (length b.store) ps) b.numbers) q B in
             omega (arith, below_at (length (nodes words₂ st)) (take n qs) i D (omega (arith, length-take-le n qs few)), get_or-take n qs i 0 c, T.1.placed.len)
 
         -- what building answered
-        made : (x : Outcome) → BuiltTo pack work₁ words words₂ qs (matching_of l m.store) r n x → Finishes (build_all (rule_of P r).premises found.0 s) words words₂ qs n x
+        made : (x : Optional Outcome) → BuiltTo pack work₁ words words₂ qs (matching_of l m.store) r n x → Finishes (build_all (rule_of P r).premises found.0 s) words words₂ qs n x
         made x K = let H = ready_matched pack work words proof l m w e R work₁ Y in K P H.reads H.proper k (N P H.reads) found.0 found.2
 
       -- ---- the three answers
-      pub answered-all : (st : Store) → BuiltBy (All st) → n ≤ length qs
-          → Premised pack work work₂ words words₂ qs l m j r (Built (having_patterns st m) n)
+      pub answered-all : (st : Store) → BuiltBy (Some (All st)) → n ≤ length qs
+          → Premised pack work work₂ words words₂ qs l m j r (Ok (Built (having_patterns st m) n))
       answered-all st K few =
-          let q = made A.proof A.world A.state A.ready A.has A.rule (All st) K.0 in
+          let q = made A.proof A.world A.state A.ready A.has A.rule (Some (All st)) K.0 in
           record {
             grown = (no_fewer A.proof A.world A.state A.ready A.has A.rule (some (take n qs)) st q K.1, answered_few);
             below = inside A.proof A.world A.state A.ready A.has A.rule st q K.1 few;
-            comes = λ proof w e R h k. came_fine proof w e R h k (some (take n qs)) st (made proof w e R h k (All st) K.0) K.1;
+            comes = λ proof w e R h k. came_fine proof w e R h k (some (take n qs)) st (made proof w e R h k (Some (All st)) K.0) K.1;
           }
 
       -- a variable has no value
-      pub answered_lacks : (st : Store) → BuiltBy (Misses st)
-          → Premised pack work work₂ words words₂ qs l m j r (Lacks (having_patterns st m))
+      pub answered_lacks : (st : Store) → BuiltBy (Some (Misses st))
+          → Premised pack work work₂ words words₂ qs l m j r (Ok (Lacks (having_patterns st m)))
       answered_lacks st K =
-          let q = made A.proof A.world A.state A.ready A.has A.rule (Misses st) K.0 in
+          let q = made A.proof A.world A.state A.ready A.has A.rule (Some (Misses st)) K.0 in
           record {
             grown = no_fewer A.proof A.world A.state A.ready A.has A.rule none st q K.1;
             below = tt;
-            comes = λ proof w e R h k. came_fine proof w e R h k none st (made proof w e R h k (Misses st) K.0) K.1;
+            comes = λ proof w e R h k. came_fine proof w e R h k none st (made proof w e R h k (Some (Misses st)) K.0) K.1;
           }
 
       -- the patterns have no room
-      pub answered_short : BuiltBy Short → Premised pack work work₂ words words₂ qs l m j r (Refused (TooShort 2))
-      answered_short K = record { grown = tt; below = tt; comes = λ proof w e R h k. came_short proof w e R h k (made proof w e R h k Short K.0) }
+      pub answered_short : BuiltBy None → Premised pack work work₂ words words₂ qs l m j r (Err (TooShort 2))
+      answered_short K = record { grown = tt; below = tt; comes = λ proof w e R h k. came_short proof w e R h k (made proof w e R h k None K.0) }

@@ -1,4 +1,5 @@
 -- Building begun, and its end: the premises' patterns, as many as there are premises.
+use Rattle.std.specs.Prelude.{Option as Optional, Some, None}
 use Rattle.std.specs.Prelude.{◌≡◌, refl, List, [], ◌∷◌, ℕ, suc, ◌+◌, ◌-◌, ◌≤◌, ◌<◌, drop, replicate}
 use Rattle.std.proofs.Common.{sym, subst, ◌∙◌}
 use Rattle.std.proofs.Math.Path.{ap}
@@ -23,7 +24,7 @@ use Rattle.emit_premises.specs.Turned.{Asked}
 use Rattle.emit_premises.specs.Ended.{Ends, Begins, BuildAsked, Finishes}
 use Rattle.emit_premises.specs.declared.building.Building.{Building}
 use Rattle.emit_premises.specs.declared.build.Built.{Built}
-use Rattle.emit_premises.specs.declared.build.Built.TheVariants.{All, Lacks, Short}
+use Rattle.emit_premises.specs.declared.build.Built.TheVariants.{All, Lacks}
 
 -- ---- as many patterns as terms
 ahead-many : (p : ℕ) (o : Option (List ℕ)) (s : List Node) (ps : List ℕ) (n : ℕ) → ((qs : List ℕ) → o ≡ some qs → length qs ≡ n) → (ahead (p ∷ []) (built_all o s)).numbers ≡ some ps → length ps ≡ suc n
@@ -98,13 +99,13 @@ module _ (n : ℕ) (stack qs ys : List ℕ) (copied : ys ≡ take (3 + n - 3) (d
       take_at ys (drop (n - 0) (drop 0 qs)) n (ap length c ∙ length_part 3 n stack fits) ∙ c
 
   -- and the premises, if all are built
-  pub finished : (ts : Terms) (env : List Bound) (s : List Node) (words words' : List ℕ) → n ≡ count ts → (x : Built) → Ends (build_all ts env s) words words' stack x → Finishes (build_all ts env s) words words' (put 0 (n - 0) ys qs) n x
-  finished ts env s words words' many (All st) E =
+  pub finished : (ts : Terms) (env : List Bound) (s : List Node) (words words' : List ℕ) → n ≡ count ts → (x : Optional Built) → Ends (build_all ts env s) words words' stack x → Finishes (build_all ts env s) words words' (put 0 (n - 0) ys qs) n x
+  finished ts env s words words' many (Some (All st)) E =
       let k : length E.0 ≡ n = built-many ts env s E.0 (ap (λ (o : BuiltAll). o.numbers) E.1) ∙ sym many in
       let q : take n (put 0 (n - 0) ys qs) ≡ E.0 = copied_take (omega (arith, E.3)) ∙ ap (λ (j : ℕ). part 3 j stack) (sym k) ∙ E.2 in
       E.1 ∙ ap (λ (ps : List ℕ). built_all (some ps) (nodes words' st)) (sym q)
-  finished ts env s words words' many (Lacks st) E = E
-  finished ts env s words words' many Short E = E
+  finished ts env s words words' many (Some (Lacks st)) E = E
+  finished ts env s words words' many None E = E
 
 -- as the premises are built
 pub begun-whole : (P : Pack) (Q : Proper P) (r : ℕ) (l : r < length P.rules) (stack : List ℕ) (st : Store) (n : ℕ) (b : Building) (B : Begins stack st n b) (many : n ≡ count (rule_of P r).premises) (bs : List Bound) (words : List ℕ)

@@ -1,4 +1,5 @@
 -- What it comes to that all terms of the innermost open symbol are built: it is a node of the one around it, or there is none around it.
+use Rattle.std.specs.Prelude.{Option as Optional, Some, None}
 use Rattle.std.specs.Prelude.{◌≡◌, refl, ℕ, ◌+◌, ◌-◌, ◌≤◌, ◌<◌, length, get_or, set}
 use Rattle.std.proofs.Common.{sym, ap, subst, ◌∙◌, arith, length-append}
 use mathlib.Core.List.{List, [], ◌∷◌, append_assoc}
@@ -14,7 +15,6 @@ use Rattle.pack_read.specs.Held.{Proper}
 use Rattle.store.specs.Words.{node_with, node_of_law, words_append}
 use Rattle.store.specs.Stored.{Answer, nodes}
 use Rattle.store.specs.declared.nodes.Store.{Store}
-use Rattle.store.specs.declared.nodes.Interned.TheVariants.{Id, Short as NoRoom}
 use Rattle.memo.specs.Lent.{lent, lent_long, back-lent, back_outside}
 use Rattle.emit_match.specs.declared.places.Matching.{Matching}
 use Rattle.emit_premises.specs.Open.{Opened, giving, whole, whole_close, whole-done, whole_grows}
@@ -23,7 +23,7 @@ use Rattle.emit_premises.specs.Amid.{Amid, lefts, wants_none, room_there}
 use Rattle.emit_premises.specs.Turned.{Goes, GivenOn, made_of, CloseAsked, Closed}
 use Rattle.emit_premises.specs.declared.building.Building.{Building}
 use Rattle.emit_premises.specs.declared.turn.Turn.{Turn}
-use Rattle.emit_premises.specs.declared.turn.Turn.TheVariants.{Next, Full, Lacks, Short}
+use Rattle.emit_premises.specs.declared.turn.Turn.TheVariants.{Next, Full, Lacks}
 
 -- more nodes have no fewer words
 pub grown-words : (s t : List Node) → Grows s t → length (pattern_words s) ≤ length (pattern_words t)
@@ -65,8 +65,8 @@ module _ (P : Pack) (Q : Proper P) (r : ℕ) (l : r < length P.rules) (stack : L
         }
 
     -- what giving it comes to
-    closes : (bs : List Bound) (words words' stack' : List ℕ) (t : Turn) → GivenOn words words' stack stack' b t → Goes P r bs words words' stack stack' b full (g ∷ gs) t
-    closes bs words words' stack' (Next b') K =
+    closes : (bs : List Bound) (words words' stack' : List ℕ) (t : Optional Turn) → GivenOn words words' stack stack' b t → Goes P r bs words words' stack stack' b full (g ∷ gs) t
+    closes bs words words' stack' (Some (Next b')) K =
         let m = room_there P Q r l stack long b full (g ∷ gs) A in
         let n : ℕ = (made_of words stack b).number in
         let made = ap (λ (x : Placing). whole (giving x.number g) gs bs x.store) (node_is words) in (
@@ -76,9 +76,9 @@ module _ (P : Pack) (Q : Proper P) (r : ℕ) (l : r < length P.rules) (stack : L
           whole_close h got bs (nodes words b.store) g gs ∙ sym made ∙ ap (whole (giving n g) gs bs) (sym K.2),
           omega (arith, ap (λ (x : Building). x.top) K.0, ap (λ (x : Building). x.next) K.0, m.1),
         )
-    closes bs words words' stack' Full K = absurd K
-    closes bs words words' stack' Lacks K = absurd K
-    closes bs words words' stack' Short K =
+    closes bs words words' stack' (Some Full) K = absurd K
+    closes bs words words' stack' (Some Lacks) K = absurd K
+    closes bs words words' stack' None K =
         let n = intern (nodes words b.store) (record { head = h; args = got }) in
         let e = ap (λ (x : Placing). length (pattern_words x.store)) (node_is words) in
         let c = ap (λ (x : BuiltAll). length (pattern_words x.store)) (whole_close h got bs (nodes words b.store) g gs) in
@@ -86,7 +86,7 @@ module _ (P : Pack) (Q : Proper P) (r : ℕ) (l : r < length P.rules) (stack : L
         omega (arith, K, e, c, w)
 
   -- ---- there is none around it
-  done : (A : Amid P r stack b full []) → (bs : List Bound) (words : List ℕ) → Goes P r bs words words stack stack b full [] Full
+  done : (A : Amid P r stack b full []) → (bs : List Bound) (words : List ℕ) → Goes P r bs words words stack stack b full [] (Some Full)
   done A bs words =
       let m = room_there P Q r l stack long b full [] A in
       let z : b.base ≡ 0 = A.around in
@@ -104,14 +104,14 @@ module _ (P : Pack) (Q : Proper P) (r : ℕ) (l : r < length P.rules) (stack : L
     ending us = record { head = f.head; given = f.given; left = us }
 
     -- the innermost is the outermost
-    pub done_goes : (fs : List Opened) → Amid P r stack b f fs → b.base ≡ 0 → Goes P r bs words words stack stack b f fs Full
+    pub done_goes : (fs : List Opened) → Amid P r stack b f fs → b.base ≡ 0 → Goes P r bs words words stack stack b f fs (Some Full)
     done_goes [] A z =
         let e = wants_none stack f b.base b.top A.frame all in
-        subst (λ (us : Terms). Goes P r bs words words stack stack b (ending us) [] Full) (sym e) (done P Q r l stack long b f.head f.given (split f.head f.given f.left [] e A) bs words)
+        subst (λ (us : Terms). Goes P r bs words words stack stack b (ending us) [] (Some Full)) (sym e) (done P Q r l stack long b f.head f.given (split f.head f.given f.left [] e A) bs words)
     done_goes (g ∷ gs) A z = absurd (omega (arith, A.around.0.ends, z))
 
     -- it isn't
-    pub close_goes : (fs : List Opened) → Amid P r stack b f fs → (b.base ≡ 0 → ⊥) → (words' stack' : List ℕ) (t : Turn) → GivenOn words words' stack stack' b t → Goes P r bs words words' stack stack' b f fs t
+    pub close_goes : (fs : List Opened) → Amid P r stack b f fs → (b.base ≡ 0 → ⊥) → (words' stack' : List ℕ) (t : Optional Turn) → GivenOn words words' stack stack' b t → Goes P r bs words words' stack stack' b f fs t
     close_goes [] A z words' stack' t K = absurd (z A.around)
     close_goes (g ∷ gs) A z words' stack' t K =
         let e = wants_none stack f b.base b.top A.frame all in
@@ -125,14 +125,14 @@ module _ (work words stack : List ℕ) (m : Matching) (b : Building) (C : CloseA
 
   module _ (ys words' : List ℕ) (long : length ys ≡ length (lent m.index m.end work)) where
     -- there is room for it
-    pub closed_made : (p : Pattern) (st : Store) → Answer (lent m.index m.end work) words ys words' b.store (lent (b.base + 2) b.top stack) (Id p st)
-        → Closed work (put m.index (m.end - m.index) ys work) words words' stack (set stack b.base p.0) m b (Next (record { store = st; base = get_or stack b.base 0; top = b.base + 1; next = b.next }))
+    pub closed_made : (p : Pattern) (st : Store) → Answer (lent m.index m.end work) words ys words' b.store (lent (b.base + 2) b.top stack) (Some (p, st))
+        → Closed work (put m.index (m.end - m.index) ys work) words words' stack (set stack b.base p.0) m b (Some (Next (record { store = st; base = get_or stack b.base 0; top = b.base + 1; next = b.next })))
     closed_made p st K = (
       (refl, ap (λ (n : ℕ). set stack b.base n) K.0, K.1),
       (back_outside m.index m.end work C.order C.fits ys long, rw (back-lent m.index m.end work C.order C.fits ys long) K.3),
     )
 
     -- there is none
-    pub closed_short : Answer (lent m.index m.end work) words ys words' b.store (lent (b.base + 2) b.top stack) NoRoom
-        → Closed work (put m.index (m.end - m.index) ys work) words words' stack stack m b Short
+    pub closed_short : Answer (lent m.index m.end work) words ys words' b.store (lent (b.base + 2) b.top stack) None
+        → Closed work (put m.index (m.end - m.index) ys work) words words' stack stack m b None
     closed_short K = (K.0, (back_outside m.index m.end work C.order C.fits ys long, tt))

@@ -1,4 +1,5 @@
 -- Between two steps of building, and behind the last.
+use Rattle.std.specs.Prelude.{Option as Optional, Some, None}
 use Rattle.std.specs.Prelude.{◌≡◌, refl, List, ℕ, ◌+◌, ◌<◌, length}
 use Rattle.std.proofs.Common.{sym, ap, ◌∙◌, arith}
 use Rattle.definition.specs.Pack.{Pack}
@@ -21,8 +22,8 @@ use Rattle.emit_premises.specs.Turned.{Goes, OfBuilding, Site, Asked, Turned, Le
 use Rattle.emit_premises.specs.Ended.{Ended, Rests}
 use Rattle.emit_premises.specs.declared.building.Building.{Building}
 use Rattle.emit_premises.specs.declared.turn.Turn.{Turn}
-use Rattle.emit_premises.specs.declared.turn.Turn.TheVariants.{Next, Full, Lacks, Short}
-use Rattle.emit_premises.specs.declared.build.Built.TheVariants.{All, Lacks as Misses, Short as NoRoom}
+use Rattle.emit_premises.specs.declared.turn.Turn.TheVariants.{Next, Full, Lacks}
+use Rattle.emit_premises.specs.declared.build.Built.TheVariants.{All, Lacks as Misses}
 
 -- what stays where only the store's index is written
 module _ (bytes work words : List ℕ) (m : Matching) (st : Store) (S : Site bytes work words m st) (work' : List ℕ) (O : Outside m.index m.end work work') where
@@ -80,7 +81,7 @@ module _ (bytes work words stack : List ℕ) (m : Matching) (r vars : ℕ) (b : 
           mapped = site_values bytes work words m b.store A.site work' K.outside A.values A.mapped;
         }
 
-    module _ (work'' words'' stack'' : List ℕ) (t : Turn) (T : Turned bytes work' words' words'' stack' stack'' m r b' t) (L : Leaves work' work'' words'' m b' t) where
+    module _ (work'' words'' stack'' : List ℕ) (t : Optional Turn) (T : Turned bytes work' words' words'' stack' stack'' m r b' t) (L : Leaves work' work'' words'' m b' t) where
       -- what it comes to, from the first on
       went : OfBuilding bytes work stack m.catalog m.values r b (λ P bs f fs. (g : Opened) × (gs : List Opened) × (whole g gs bs (nodes words' b'.store) ≡ whole f fs bs (nodes words b.store)) × Goes P r bs words' words'' stack' stack'' b' g gs t)
       went P R Q l bs M f fs N =
@@ -94,38 +95,38 @@ module _ (bytes work words stack : List ℕ) (m : Matching) (r vars : ℕ) (b : 
 
     module _ (work'' words'' stack'' : List ℕ) where
       -- there is less to come
-      pub going_less : (b'' : Building) → Turned bytes work' words' words'' stack' stack'' m r b' (Next b'') → Leaves work' work'' words'' m b' (Next b'') → to_come b'' < to_come b'
+      pub going_less : (b'' : Building) → Turned bytes work' words' words'' stack' stack'' m r b' (Some (Next b'')) → Leaves work' work'' words'' m b' (Some (Next b'')) → to_come b'' < to_come b'
       going_less b'' T L =
           let H = A.site.held in
-          (went work'' words'' stack'' (Next b'') T L H.pack H.reads H.proper A.rule A.values A.mapped A.inner A.outer A.amid).3.4
+          (went work'' words'' stack'' (Some (Next b'')) T L H.pack H.reads H.proper A.rule A.values A.mapped A.inner A.outer A.amid).3.4
 
       -- a step more
-      pub going_more : (b'' : Building) → length words'' ≡ length words' → length stack'' ≡ length stack' → Turned bytes work' words' words'' stack' stack'' m r b' (Next b'') → Leaves work' work'' words'' m b' (Next b'')
+      pub going_more : (b'' : Building) → length words'' ≡ length words' → length stack'' ≡ length stack' → Turned bytes work' words' words'' stack' stack'' m r b' (Some (Next b'')) → Leaves work' work'' words'' m b' (Some (Next b''))
           → Going bytes work work'' words words'' stack stack'' m r b b''
       going_more b'' e h T L = record {
-        outside = went_outside work'' words'' stack'' (Next b'') T L;
+        outside = went_outside work'' words'' stack'' (Some (Next b'')) T L;
         stored = L.1;
         long = e ∙ K.long;
         high = h ∙ K.high;
-        rest = λ P R Q l bs M f fs N. let g = went work'' words'' stack'' (Next b'') T L P R Q l bs M f fs N in (g.3.0, g.3.1, g.3.2, sym g.3.3 ∙ g.2);
+        rest = λ P R Q l bs M f fs N. let g = went work'' words'' stack'' (Some (Next b'')) T L P R Q l bs M f fs N in (g.3.0, g.3.1, g.3.2, sym g.3.3 ∙ g.2);
       }
 
       -- all are built
-      pub going_full : Turned bytes work' words' words'' stack' stack'' m r b' Full → Leaves work' work'' words'' m b' Full → Ended bytes work words words'' stack stack'' m r b (All b'.store) × Rests work work'' words'' m (All b'.store)
+      pub going_full : Turned bytes work' words' words'' stack' stack'' m r b' (Some Full) → Leaves work' work'' words'' m b' (Some Full) → Ended bytes work words words'' stack stack'' m r b (Some (All b'.store)) × Rests work work'' words'' m (Some (All b'.store))
       going_full T L = (
-        (λ P R Q l bs M f fs N. let g = went work'' words'' stack'' Full T L P R Q l bs M f fs N in (g.3.0, sym g.2 ∙ g.3.1, g.3.2, g.3.3)),
-        (went_outside work'' words'' stack'' Full T L, L.1),
+        (λ P R Q l bs M f fs N. let g = went work'' words'' stack'' (Some Full) T L P R Q l bs M f fs N in (g.3.0, sym g.2 ∙ g.3.1, g.3.2, g.3.3)),
+        (went_outside work'' words'' stack'' (Some Full) T L, L.1),
       )
 
       -- a variable has no value
-      pub going_lacks : Turned bytes work' words' words'' stack' stack'' m r b' Lacks → Leaves work' work'' words'' m b' Lacks → Ended bytes work words words'' stack stack'' m r b (Misses b'.store) × Rests work work'' words'' m (Misses b'.store)
-      going_lacks T L = ((λ P R Q l bs M f fs N. let g = went work'' words'' stack'' Lacks T L P R Q l bs M f fs N in sym g.2 ∙ g.3), (went_outside work'' words'' stack'' Lacks T L, L.1))
+      pub going_lacks : Turned bytes work' words' words'' stack' stack'' m r b' (Some Lacks) → Leaves work' work'' words'' m b' (Some Lacks) → Ended bytes work words words'' stack stack'' m r b (Some (Misses b'.store)) × Rests work work'' words'' m (Some (Misses b'.store))
+      going_lacks T L = ((λ P R Q l bs M f fs N. let g = went work'' words'' stack'' (Some Lacks) T L P R Q l bs M f fs N in sym g.2 ∙ g.3), (went_outside work'' words'' stack'' (Some Lacks) T L, L.1))
 
       -- there is no room
-      pub going_short : Turned bytes work' words' words'' stack' stack'' m r b' Short → Leaves work' work'' words'' m b' Short → Ended bytes work words words'' stack stack'' m r b NoRoom × Rests work work'' words'' m NoRoom
+      pub going_short : Turned bytes work' words' words'' stack' stack'' m r b' None → Leaves work' work'' words'' m b' None → Ended bytes work words words'' stack stack'' m r b None × Rests work work'' words'' m None
       going_short T L = (
         (λ P R Q l bs M f fs N.
-            let g = went work'' words'' stack'' Short T L P R Q l bs M f fs N in
+            let g = went work'' words'' stack'' None T L P R Q l bs M f fs N in
             omega (arith, g.3, K.long, ap (λ (o : BuiltAll). length (pattern_words o.store)) g.2)),
-        (went_outside work'' words'' stack'' Short T L, tt),
+        (went_outside work'' words'' stack'' None T L, tt),
       )

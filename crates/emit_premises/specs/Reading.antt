@@ -1,4 +1,5 @@
 -- What reading a word comes to: a symbol is opened, or a variable's value is given.
+use Rattle.std.specs.Prelude.{Option as Optional, Some, None}
 use Rattle.std.specs.Prelude.{◌≡◌, refl, List, [], ◌∷◌, ℕ, ◌+◌, ◌-◌, ◌≤◌, ◌<◌, get_or}
 use Rattle.std.proofs.Common.{sym, ◌∙◌, arith}
 use Rattle.std.proofs.Math.Path.{ap, subst}
@@ -17,7 +18,7 @@ use Rattle.store.specs.Stored.{Stored, nodes}
 use Rattle.emit_premises.specs.Turned.{Goes, Valued, Keeps, StoredBy}
 use Rattle.emit_premises.specs.declared.building.Building.{Building}
 use Rattle.emit_premises.specs.declared.turn.Turn.{Turn}
-use Rattle.emit_premises.specs.declared.turn.Turn.TheVariants.{Next, Full, Lacks, Short}
+use Rattle.emit_premises.specs.declared.turn.Turn.TheVariants.{Next, Full, Lacks}
 
 module _ (P : Pack) (Q : Proper P) (r : ℕ) (l : r < length P.rules) (stack : List ℕ) (long : length stack ≡ 771) (b : Building) (w : ℕ) (word : w ≡ get_or (rule_words (rule_of P r)) b.next 0) where
   -- ---- a symbol
@@ -31,7 +32,7 @@ module _ (P : Pack) (Q : Proper P) (r : ℕ) (l : r < length P.rules) (stack : L
 
     -- it is opened
     opens : (h : ℕ) (got : List ℕ) (left : Terms) (fs : List Opened) → Amid P r stack b (record { head = h; given = got; left = left }) fs → (count left ≡ 0 → ⊥)
-        → (arity : ℕ) → arity ≡ length (symbol_of P w).inputs → (bs : List Bound) (words : List ℕ) → Goes P r bs words words stack (opening stack b.base b.top w arity) b (record { head = h; given = got; left = left }) fs (Next (opened b))
+        → (arity : ℕ) → arity ≡ length (symbol_of P w).inputs → (bs : List Bound) (words : List ℕ) → Goes P r bs words words stack (opening stack b.base b.top w arity) b (record { head = h; given = got; left = left }) fs (Some (Next (opened b)))
     unfolding count
     opens h got nil fs A more arity e bs words = absurd (more refl)
     opens h got (cons (var k) ts) fs A more arity e bs words = absurd (omega (arith, (variable-cut P Q r l stack long b h got fs w word k ts A).0))
@@ -65,9 +66,9 @@ module _ (P : Pack) (Q : Proper P) (r : ℕ) (l : r < length P.rules) (stack : L
           M.values k (omega (arith, (variable_sorted P Q r l stack long b h got fs w word k ts A).0, (Q.good.rules r l).variables)) ∙ ap (λ (x : ℕ). told (get_or work (at + x) 0)) e
 
       -- its value is given, or it has none
-      valued : (t : Turn) → Valued work stack stack' at b (w - variable) t → Goes P r bs words words stack stack' b (record { head = h; given = got; left = cons (var k) ts }) fs t
+      valued : (t : Optional Turn) → Valued work stack stack' at b (w - variable) t → Goes P r bs words words stack stack' b (record { head = h; given = got; left = cons (var k) ts }) fs t
       unfolding told
-      valued (Next b') K =
+      valued (Some (Next b')) K =
           let m = room_there P Q r l stack long b (record { head = h; given = got; left = cons (var k) ts }) fs A in
           rw (K.2, K.3) (
             giving K.0 (record { head = h; given = got; left = ts }),
@@ -76,12 +77,12 @@ module _ (P : Pack) (Q : Proper P) (r : ℕ) (l : r < length P.rules) (stack : L
             whole-value h got ts fs bs k K.0 (nodes words b.store) (says ∙ told_more (get_or work (at + (w - variable)) 0) K.0 K.1),
             omega (arith, m.2),
           )
-      valued Full K = absurd K
-      valued Lacks K = whole-nothing h got ts fs bs k (nodes words b.store) (says ∙ ap told K)
-      valued Short K = absurd K
+      valued (Some Full) K = absurd K
+      valued (Some Lacks) K = whole-nothing h got ts fs bs k (nodes words b.store) (says ∙ ap told K)
+      valued None K = absurd K
 
     -- the same whatever terms are left
-    gives : (work : List ℕ) (at : ℕ) (bs : List Bound) → Mapped work at 64 bs → (words stack' : List ℕ) (t : Turn) → Valued work stack stack' at b (w - variable) t
+    gives : (work : List ℕ) (at : ℕ) (bs : List Bound) → Mapped work at 64 bs → (words stack' : List ℕ) (t : Optional Turn) → Valued work stack stack' at b (w - variable) t
         → (h : ℕ) (got : List ℕ) (left : Terms) (fs : List Opened) → Amid P r stack b (record { head = h; given = got; left = left }) fs → (count left ≡ 0 → ⊥) → Goes P r bs words words stack stack' b (record { head = h; given = got; left = left }) fs t
     unfolding count
     gives work at bs M words stack' t K h got nil fs A more = absurd (more refl)
@@ -99,7 +100,7 @@ module _ (P : Pack) (Q : Proper P) (r : ℕ) (l : r < length P.rules) (stack : L
     symbol-below low = below low f.head f.given f.left fs A lacks
 
     -- it is opened
-    pub symbol_goes : w < variable → (arity : ℕ) → arity ≡ length (symbol_of P w).inputs → (bs : List Bound) (words : List ℕ) → Goes P r bs words words stack (opening stack b.base b.top w arity) b f fs (Next (opened b))
+    pub symbol_goes : w < variable → (arity : ℕ) → arity ≡ length (symbol_of P w).inputs → (bs : List Bound) (words : List ℕ) → Goes P r bs words words stack (opening stack b.base b.top w arity) b f fs (Some (Next (opened b)))
     symbol_goes low = opens low f.head f.given f.left fs A lacks
 
     -- a variable has a place among the values
@@ -107,19 +108,19 @@ module _ (P : Pack) (Q : Proper P) (r : ℕ) (l : r < length P.rules) (stack : L
     variable-below high = few high f.head f.given f.left fs A lacks
 
     -- its value is given, or it has none
-    pub variable_goes : variable ≤ w → (work : List ℕ) (at : ℕ) (bs : List Bound) → Mapped work at 64 bs → (words stack' : List ℕ) (t : Turn) → Valued work stack stack' at b (w - variable) t → Goes P r bs words words stack stack' b f fs t
+    pub variable_goes : variable ≤ w → (work : List ℕ) (at : ℕ) (bs : List Bound) → Mapped work at 64 bs → (words stack' : List ℕ) (t : Optional Turn) → Valued work stack stack' at b (w - variable) t → Goes P r bs words words stack stack' b f fs t
     variable_goes high work at bs M words stack' t K = gives high work at bs M words stack' t K f.head f.given f.left fs A lacks
 
 -- a value that is given makes no pattern
-pub valued_keeps : (work stack stack' : List ℕ) (at : ℕ) (b : Building) (k : ℕ) (t : Turn) → Valued work stack stack' at b k t → Keeps b t
-valued_keeps work stack stack' at b k (Next b') K = ap (λ (x : Building). x.store) K.3
-valued_keeps work stack stack' at b k Full K = K
-valued_keeps work stack stack' at b k Lacks K = tt
-valued_keeps work stack stack' at b k Short K = K
+pub valued_keeps : (work stack stack' : List ℕ) (at : ℕ) (b : Building) (k : ℕ) (t : Optional Turn) → Valued work stack stack' at b k t → Keeps b t
+valued_keeps work stack stack' at b k (Some (Next b')) K = ap (λ (x : Building). x.store) K.3
+valued_keeps work stack stack' at b k (Some Full) K = K
+valued_keeps work stack stack' at b k (Some Lacks) K = tt
+valued_keeps work stack stack' at b k None K = K
 
 -- where none is made, they are in the store as they were
-pub kept-stored : (index words : List ℕ) (b : Building) (t : Turn) → Keeps b t → Stored index words b.store → StoredBy index words b t
-kept-stored index words b (Next b') K S = rw K S
-kept-stored index words b Full K S = S
-kept-stored index words b Lacks K S = S
-kept-stored index words b Short K S = tt
+pub kept-stored : (index words : List ℕ) (b : Building) (t : Optional Turn) → Keeps b t → Stored index words b.store → StoredBy index words b t
+kept-stored index words b (Some (Next b')) K S = rw K S
+kept-stored index words b (Some Full) K S = S
+kept-stored index words b (Some Lacks) K S = S
+kept-stored index words b None K S = tt

@@ -41,7 +41,6 @@ impl Building {
         ensures words { stack.new ≡ opening stack.old self.base self.top h arity }
     {
         let top = self.top;
-        let store = self.store;
         let end = top + Opening::END;
         let head = top + Opening::HEAD;
         let terms = top + Opening::TERMS;
@@ -49,10 +48,10 @@ impl Building {
         stack[end] = (terms + arity) as u32;
         stack[head] = h;
         Building {
-            store: store,
             base: top,
             top: terms,
             next: self.next + 1,
+            ..self
         }
     }
 
@@ -62,14 +61,11 @@ impl Building {
         ensures state { result ≡ given self }
         ensures words { stack.new ≡ set stack.old self.top p }
     {
-        let top = self.top;
-        let store = self.store;
-        stack[top] = p;
+        stack[self.top] = p;
         Building {
-            store: store,
-            base: self.base,
-            top: top + 1,
+            top: self.top + 1,
             next: self.next + 1,
+            ..self
         }
     }
 }

@@ -11,7 +11,7 @@ use emit_state::places::Places;
 use emit_state::standing::Standing;
 use pack_read::rule::rule_premises;
 
-// The rule matched, and then its premises built.
+// The rule matched, and then its premises built; refused where there is no room for a node.
 fn match_and_build(
     pack: &[u8],
     work: &mut [u32],
@@ -21,21 +21,22 @@ fn match_and_build(
     j: u32,
     r: u32,
     qs: &mut [u32],
-) -> Premises
+) -> Result<Premises, Refusal>
     requires { PremisesAsked pack.now work.old words.old l m j r × (length qs.old ≡ most_premises) }
     ensures { Premised pack.now work.old work.new words.old words.new qs.new l m j r result }
 {
-    let store = m.store;
-    let at = l.matching(store);
+    let at = l.matching(m.store);
     let rule = r as usize;
     if !match_rule(pack, work, words, at, rule, j) {
-        return Premises::Lacks(m);
+        return Ok(Premises::Lacks(m));
     }
     let n = rule_premises(pack, work, at.catalog, rule);
-    match build_premises(pack, work, words, at, rule, n, qs) {
-        Built::All(grown) => Premises::Built(m.with_store(grown), n),
-        Built::Lacks(grown) => Premises::Lacks(m.with_store(grown)),
-        Built::Short => Premises::Refused(Refusal::Short(Buffer::PATTERN)),
+    let Some(built) = build_premises(pack, work, words, at, rule, n, qs) else {
+        return Err(Refusal::Short(Buffer::PATTERN));
+    };
+    match built {
+        Built::All(grown) => Ok(Premises::Built(m.with_store(grown), n)),
+        Built::Lacks(grown) => Ok(Premises::Lacks(m.with_store(grown))),
     }
 }
 
@@ -49,7 +50,7 @@ fn premises_apart(
     j: u32,
     r: u32,
     qs: &mut [u32],
-) -> Premises
+) -> Result<Premises, Refusal>
     requires { PremisesAsked pack.now work.old words.old l m j r × (length qs.old ≡ most_premises) }
     ensures { Premised pack.now work.old work.new words.old words.new qs.new l m j r result }
 {
@@ -59,7 +60,8 @@ fn premises_apart(
     match_and_build(pack, work, words, l, m, j, r, qs)
 }
 
-// The premises of rule `r` as patterns in `qs`, where its conclusion matches judgment `j` and gives each of their variables.
+// The premises of rule `r` as patterns in `qs`, where its conclusion matches judgment `j` and gives each of their variables; refused where
+// there is no room for a node.
 pub fn premises(
     pack: &[u8],
     work: &mut [u32],
@@ -69,7 +71,7 @@ pub fn premises(
     j: u32,
     r: u32,
     qs: &mut [u32],
-) -> Premises
+) -> Result<Premises, Refusal>
     requires { PremisesAsked pack.now work.old words.old l m j r × (length qs.old ≡ most_premises) }
     ensures { Premised pack.now work.old work.new words.old words.new qs.new l m j r result }
 {

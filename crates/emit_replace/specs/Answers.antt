@@ -1,4 +1,5 @@
 -- A pattern put for L, as emission puts it.
+use Rattle.std.specs.Prelude.{Some, None, Result, Ok, Err}
 use Rattle.std.specs.Prelude.{◌≡◌, refl, true, false, ℕ, suc, ◌≤◌, ◌<◌, get_or}
 use Rattle.std.proofs.Common.{sym, ap, ◌∙◌, arith}
 use Rattle.std.proofs.Math.Path.{subst}
@@ -35,10 +36,8 @@ use Rattle.emit_replace.specs.Asking.{alone}
 use Rattle.emit_replace.specs.Putting.{Task, Going, PutAll}
 use Rattle.emit_replace.specs.Beginning.{replaced_stamp, ready_rests, begun-pending}
 use Rattle.emit_replace.specs.Outcome.{put-got, put_refused}
-use Rattle.store.specs.declared.nodes.Interned.TheVariants as interns
 use Rattle.base.specs.declared.id.Pattern.{Pattern}
-use Rattle.emit_replace.specs.declared.put.Replaced.{Replaced}
-use Rattle.emit_replace.specs.declared.put.Replaced.TheVariants.{As, Refused}
+use Rattle.definition.specs.declared.Refusal.{Refusal}
 
 -- patterns of a state of emission that the words hold
 pub record Replaceable (work words : List ℕ) (l : Places) (m : Standing) (x y j : ℕ) : Type 0 where
@@ -52,17 +51,17 @@ pub record Replaceable (work words : List ℕ) (l : Places) (m : Standing) (x y 
   pub j_stored : j < length state.kept.store
 
 -- patterns are only added
-abbrev pub Grown : Standing → Replaced → Type 0
-Grown m (As t q) = m.store.len ≤ t.store.len
-Grown m (Refused r) = Unit {0}
+abbrev pub Grown : Standing → Result (Standing × ℕ) Refusal → Type 0
+Grown m (Ok (t, q)) = m.store.len ≤ t.store.len
+Grown m (Err r) = Unit {0}
 
 -- what it came to, held by the buffers
-abbrev pub ReplacedTo : Buffers → Places → World → Read (Tried ℕ) → Replaced → Type 0
-ReplacedTo b l w o (As t q) = (e : Emitter) × (o ≡ got q e) × Holding b l t w e
-ReplacedTo b l w o (Refused r) = o ≡ refuse r
+abbrev pub ReplacedTo : Buffers → Places → World → Read (Tried ℕ) → Result (Standing × ℕ) Refusal → Type 0
+ReplacedTo b l w o (Ok (t, q)) = (e : Emitter) × (o ≡ got q e) × Holding b l t w e
+ReplacedTo b l w o (Err r) = o ≡ refuse r
 
 -- y in place of L in j, in every such state
-abbrev pub Replaces : List ℕ → List ℕ → List ℕ → List ℕ → Places → Standing → ℕ → ℕ → ℕ → Replaced → Type 0
+abbrev pub Replaces : List ℕ → List ℕ → List ℕ → List ℕ → Places → Standing → ℕ → ℕ → ℕ → Result (Standing × ℕ) Refusal → Type 0
 Replaces work words work' words' l m x y j r =
     (pack proof : List ℕ) (w : World) (e : Emitter) → Ready (lends pack work words proof) l m w e → x ≡ w.setting.eigen → y < length e.kept.store → j < length e.kept.store
     → ReplacedTo (lends pack work' words' proof) l w (outcome w.lent (put_for_l w.setting y j e)) r
@@ -100,7 +99,7 @@ module _ (pack proof work words : List ℕ) (l : Places) (m : Standing) (w : Wor
     task = record { x = x; y = y; d = j; final = (replace (suc j) x y (j ∷ []) (nodes words m.store)).store }
 
     -- L itself
-    itself : x ≡ w.setting.eigen → j ≡ x → ReplacedTo (lends pack work words proof) l w (outcome w.lent (put_for_l w.setting y j e)) (As m y)
+    itself : x ≡ w.setting.eigen → j ≡ x → ReplacedTo (lends pack work words proof) l w (outcome w.lent (put_for_l w.setting y j e)) (Ok (m, y))
     unfolding replace
     itself i q =
         let z : replace (suc j) w.setting.eigen y (j ∷ []) s ≡ stored_all (y ∷ []) s = replace-first w.setting.eigen y j j [] s s y (one_itself w.setting.eigen y j j s (q ∙ i)) in
@@ -127,8 +126,8 @@ module _ (pack proof work words : List ℕ) (l : Places) (m : Standing) (w : Wor
       same i = rw (i, R.holding.nodes_are)
 
       -- its answer is emission's
-      replaced_as : x ≡ w.setting.eigen → (work₂ words₂ : List ℕ) (q : Pattern) (st : Store) → PutAll work₁ words work₂ words₂ l m.store memo j (interns.Id q st) → length words₂ ≡ length words
-          → ReplacedTo (lends pack work₂ words₂ proof) l w (outcome w.lent (put_for_l w.setting y j e)) (As (having_patterns st m) q.0)
+      replaced_as : x ≡ w.setting.eigen → (work₂ words₂ : List ℕ) (q : Pattern) (st : Store) → PutAll work₁ words work₂ words₂ l m.store memo j (Some (q, st)) → length words₂ ≡ length words
+          → ReplacedTo (lends pack work₂ words₂ proof) l w (outcome w.lent (put_for_l w.setting y j e)) (Ok ((having_patterns st m), q.0))
       replaced_as i work₂ words₂ q st A long =
           let C = A.goes task put_going in
           let t = nodes words₂ st in
@@ -141,21 +140,21 @@ module _ (pack proof work words : List ℕ) (l : Places) (m : Standing) (w : Wor
           )
 
       -- a short buffer is emission's
-      refused : x ≡ w.setting.eigen → (work₂ words₂ : List ℕ) → PutAll work₁ words work₂ words₂ l m.store memo j interns.Short → outcome w.lent (put_for_l w.setting y j e) ≡ refuse (Short 2)
+      refused : x ≡ w.setting.eigen → (work₂ words₂ : List ℕ) → PutAll work₁ words work₂ words₂ l m.store memo j None → outcome w.lent (put_for_l w.setting y j e) ≡ refuse (Short 2)
       refused i work₂ words₂ A =
           let C = A.goes task put_going in
           put_refused w.lent w.setting y j e (replace_grows w.setting.eigen y (suc j) (j ∷ []) s) room (omega (arith, C, R.holding.pattern_lent, ap (λ (r : StoredAll). length (pattern_words r.store)) (same i)))
 
 module _ (work words : List ℕ) (l : Places) (m : Standing) (x y j : ℕ) where
   -- L itself
-  pub replaces_itself : j ≡ x → Replaces work words work words l m x y j (As m y)
+  pub replaces_itself : j ≡ x → Replaces work words work words l m x y j (Ok (m, y))
   replaces_itself q pack proof w e R i b h = itself pack proof work words l m w e R x y j h i q
 
   module _ (work₁ : List ℕ) (memo : Memo) (B : Begun work work₁ l x y memo) (n : j ≡ x → ⊥) (work₂ words₂ : List ℕ) where
     -- another pattern
-    pub replaces_as : (q : Pattern) (st : Store) (t : Standing) → t ≡ having_patterns st m → PutAll work₁ words work₂ words₂ l m.store memo j (interns.Id q st) → length words₂ ≡ length words → Grown m (As t q.0) × Replaces work words work₂ words₂ l m x y j (As t q.0)
+    pub replaces_as : (q : Pattern) (st : Store) (t : Standing) → t ≡ having_patterns st m → PutAll work₁ words work₂ words₂ l m.store memo j (Some (q, st)) → length words₂ ≡ length words → Grown m (Ok (t, q.0)) × Replaces work words work₂ words₂ l m x y j (Ok (t, q.0))
     replaces_as q st t f A long = rw f (A.grown, λ pack proof w e R i b h. replaced_as pack proof work words l m w e R x y j h work₁ memo B n i work₂ words₂ q st A long)
 
     -- a short buffer
-    pub replaces_short : PutAll work₁ words work₂ words₂ l m.store memo j interns.Short → Replaces work words work₂ words₂ l m x y j (Refused (Short 2))
+    pub replaces_short : PutAll work₁ words work₂ words₂ l m.store memo j None → Replaces work words work₂ words₂ l m x y j (Err (Short 2))
     replaces_short A pack proof w e R i b h = refused pack proof work words l m w e R x y j h work₁ memo B n i work₂ words₂ A

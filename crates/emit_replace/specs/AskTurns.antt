@@ -1,11 +1,11 @@
 -- A turn of asking keeps what is asked.
+use Rattle.std.specs.Prelude.{Some, None}
 use Rattle.std.specs.Prelude.{◌≡◌, refl, List, [], ◌∷◌, ℕ, suc, ◌+◌, ◌≤◌, ◌<◌, length, get_or}
 use Rattle.std.proofs.Common.{sym, ap, subst, ◌∙◌, arith}
 use Rattle.std.proofs.Math.Option.{some}
 use Rattle.base.specs.Outside.{outside_none, outside_then, outside_wider}
 use Rattle.base.specs.Stack.{stacked, Took}
 use Rattle.base.specs.declared.stack.Stack.{Stack}
-use Rattle.base.specs.declared.stack.Popped.TheVariants.{Word, Empty}
 use Rattle.memo.specs.Lent.{lent-before, Puts}
 use Rattle.memo.specs.Recall.{Remembers}
 use Rattle.memo.specs.declared.memo.Memo.{Memo}
@@ -100,23 +100,23 @@ module _ (work work₁ words : List ℕ) (l : Places) (st : Store) (memo : Memo)
           (λ i h. let z = D.ripe i h in (z.0, f (get_or (args_in words st q) i 0) ∙ z.1)) (P.here ∙ ap some e) P.others
 
       -- the next is asked
-      next-asked : (next : ℕ) (rest : Stack) → Took (stacked r.under.at r.under.len work₂) r.under.at work₂ (Word next rest) → Asking work₂ words l st memo next rest x d
+      next-asked : (next : ℕ) (rest : Stack) → Took (stacked r.under.at r.under.len work₂) r.under.at work₂ (Some (next, rest)) → Asking work₂ words l st memo next rest x d
       next-asked next rest T =
           let N = pending_next work₁ words l st memo q r.under d B.pending work₂ P.outside.long same P.others words st readable B.pending.rests next rest T in
           record { pending = N.0; remembers = P.remembers; begun = (B.begun.0, P.others x (pending_apart work₁ words l st memo q r.under d B.pending x B.begun) ∙ B.begun.1); says = says }
 
       -- or all is answered
-      last-answered : Took (stacked r.under.at r.under.len work₂) r.under.at work₂ Empty → Answered work₂ words l st memo x d mark
+      last-answered : Took (stacked r.under.at r.under.len work₂) r.under.at work₂ None → Answered work₂ words l st memo x d mark
       last-answered T =
           let N = pending-last work₁ words l st memo q r.under d B.pending work₂ P.outside.long same P.others T in
           (says q mark P.here ∙ ap (λ (z : ℕ). bit (mentions (suc d) (nodes words st) x (z ∷ []))) N.0, P.remembers)
 
     -- the turn, with a next one
-    pub asks_on : (next : ℕ) (rest : Stack) → Took (stacked r.under.at r.under.len work₂) r.under.at work₂ (Word next rest) → AsksOn work work₂ words l st memo p stack (On next rest)
+    pub asks_on : (next : ℕ) (rest : Stack) → Took (stacked r.under.at r.under.len work₂) r.under.at work₂ (Some (next, rest)) → AsksOn work work₂ words l st memo p stack (On next rest)
     asks_on next rest T = record { kept = kept; goes = λ x d B. next-asked x d (asking_down work work₁ words l st memo p q stack r.under D.down x d B) next rest T; less = less }
 
     -- without one
-    pub asks_done : Took (stacked r.under.at r.under.len work₂) r.under.at work₂ Empty → AsksOn work work₂ words l st memo p stack (Done mark)
+    pub asks_done : Took (stacked r.under.at r.under.len work₂) r.under.at work₂ None → AsksOn work work₂ words l st memo p stack (Done mark)
     asks_done T = record { kept = kept; goes = λ x d B. last-answered x d (asking_down work work₁ words l st memo p q stack r.under D.down x d B) T; less = less }
 
 -- turns so far

@@ -1,4 +1,5 @@
 -- A pattern over its arguments' values.
+use Rattle.std.specs.Prelude.{Option, Some, None}
 use Rattle.std.specs.Prelude.{◌≡◌, List, [], ◌∷◌, map, ℕ, ◌-◌, ◌≤◌, ◌<◌, length, get_or, take, drop}
 use Rattle.std.proofs.Common.{sym, ap₂, subst, ◌∙◌, arith}
 use Rattle.std.proofs.Math.Path.{ap}
@@ -15,8 +16,6 @@ use Rattle.memo.specs.declared.memo.Memo.{Memo}
 use Rattle.store.specs.Words.{node_with}
 use Rattle.store.specs.Stored.{Stored, nodes, Answer}
 use Rattle.store.specs.declared.nodes.Store.{Store}
-use Rattle.store.specs.declared.nodes.Interned.{Interned}
-use Rattle.store.specs.declared.nodes.Interned.TheVariants.{Id, Short}
 use Rattle.emit_state.specs.Places.{replaced_at, stamp_at, index_end, index_in, replaced_in, Laid, SameIn}
 use Rattle.emit_state.specs.Frame.{laid_on}
 use Rattle.emit_state.specs.Grown.{Apart, apart_then}
@@ -52,9 +51,9 @@ pub record NoRoom (work words : List ℕ) (l : Places) (st : Store) (memo : Memo
   pub short : length words < length (pattern_words (intern (nodes words st) (over_values (values_in work l memo) (nodes words st) p)).store)
 
 -- it is made, or there is no room for it
-abbrev pub Makes : List ℕ → List ℕ → List ℕ → List ℕ → Places → Store → Memo → ℕ → Interned → Type 0
-Makes work words work' words' l st memo p (Id q st') = MadeAs work words work' words' l st memo p q st'
-Makes work words work' words' l st memo p Short = NoRoom work words l st memo p × Outside l.index (index_end l) work work'
+abbrev pub Makes : List ℕ → List ℕ → List ℕ → List ℕ → Places → Store → Memo → ℕ → Option (Pattern × Store) → Type 0
+Makes work words work' words' l st memo p (Some (q, st')) = MadeAs work words work' words' l st memo p q st'
+Makes work words work' words' l st memo p None = NoRoom work words l st memo p × Outside l.index (index_end l) work work'
 
 -- what is asked to make it its value
 pub record Finishable (work words : List ℕ) (l : Places) (st : Store) (memo : Memo) (p : ℕ) : Type 0 where
@@ -73,9 +72,9 @@ pub record FinishedAs (work words work' words' : List ℕ) (l : Places) (st : St
   pub others : (o : ℕ) → (p ≡ o → ⊥) → values_in work' l memo o ≡ values_in work l memo o
 
 -- it is its value, or there is no room for it
-abbrev pub Finishes : List ℕ → List ℕ → List ℕ → List ℕ → Places → Store → Memo → ℕ → Interned → Type 0
-Finishes work words work' words' l st memo p (Id q st') = FinishedAs work words work' words' l st memo p q st'
-Finishes work words work' words' l st memo p Short = NoRoom work words l st memo p × Outside l.index (index_end l) work work'
+abbrev pub Finishes : List ℕ → List ℕ → List ℕ → List ℕ → Places → Store → Memo → ℕ → Option (Pattern × Store) → Type 0
+Finishes work words work' words' l st memo p (Some (q, st')) = FinishedAs work words work' words' l st memo p q st'
+Finishes work words work' words' l st memo p None = NoRoom work words l st memo p × Outside l.index (index_end l) work work'
 
 -- ---- laws
 -- a pattern with nothing below it is itself
@@ -115,15 +114,15 @@ module _ (work words : List ℕ) (l : Places) (st : Store) (memo : Memo) (p : �
   node = ap node_with is_key
 
   -- what comes of it
-  pub makes : (words' : List ℕ) (r : Interned) → Answer (index_in work l) words idx words' st key r → Makes work words back words' l st memo p r
-  makes words' (Id q st') N =
+  pub makes : (words' : List ℕ) (r : Option (Pattern × Store)) → Answer (index_in work l) words idx words' st key r → Makes work words back words' l st memo p r
+  makes words' (Some (q, st')) N =
       let f : intern (nodes words st) (over_values (values_in work l memo) (nodes words st) p) ≡ intern (nodes words st) (node_with key) = ap (intern (nodes words st)) (sym node) in
       record {
         outside = outside;
         stored_on = rw (back-lent l.index (index_end l) work (omega arith) fits idx long) N.3;
         made = record { bare = λ e. absurd (omega (arith, ap length e)); applied = λ _. f ∙ ap₂ stored (sym N.0) (sym N.1) };
       }
-  makes words' Short N = (record { applied = h; short = subst (λ (n : Node). length words < length (pattern_words (intern (nodes words st) n).store)) node N.0 }, outside)
+  makes words' None N = (record { applied = h; short = subst (λ (n : Node). length words < length (pattern_words (intern (nodes words st) n).store)) node N.0 }, outside)
 
 -- the index is among what may be written
 pub apart_index : (l : Places) (work work' : List ℕ) → Laid work l → Outside l.index (index_end l) work work' → Apart l work work'

@@ -1,14 +1,13 @@
 -- The turns of replacing, one after the other.
+use Rattle.std.specs.Prelude.{Some, None}
 use Rattle.std.specs.Prelude.{◌≡◌, refl, List, ℕ, ◌+◌, ◌≤◌, ◌<◌, length, get_or}
 use Rattle.std.proofs.Common.{sym, subst, ◌∙◌, arith}
 use Rattle.base.specs.Outside.{Outside}
 use Rattle.base.specs.Stack.{stacked, Took}
 use Rattle.base.specs.declared.id.Pattern.{Pattern}
 use Rattle.base.specs.declared.stack.Stack.{Stack}
-use Rattle.base.specs.declared.stack.Popped.TheVariants.{Word, Empty}
 use Rattle.memo.specs.declared.memo.Memo.{Memo}
 use Rattle.store.specs.declared.nodes.Store.{Store}
-use Rattle.store.specs.declared.nodes.Interned.TheVariants as interns
 use Rattle.emit_state.specs.Places.{stamp_at, index_end}
 use Rattle.emit_state.specs.Grown.{Apart, apart_then}
 use Rattle.emit_state.specs.declared.places.Places.{Places}
@@ -20,7 +19,7 @@ use Rattle.emit_replace.specs.Making.{NoRoom, Finishable, FinishedAs, apart_inde
 use Rattle.emit_replace.specs.Putting.{Task, Going, Puttable, PutsOn, PutAll}
 use Rattle.emit_replace.specs.PutTurns.{apart_walk, going_down, short_whole, going_finishable, finished_grown, finished_stack, finished_less, going_next, going_done}
 use Rattle.emit_replace.specs.declared.walk.Reached.{Reached}
-use Rattle.emit_replace.specs.declared.put.Turn.TheVariants.{On, Done, Short}
+use Rattle.emit_replace.specs.declared.put.Turn.TheVariants.{On, Done}
 
 module _ (work work₁ words : List ℕ) (l : Places) (st : Store) (memo : Memo) (p : ℕ) (stack : Stack) (G : Puttable work words l st memo p stack) (r : Reached) (D : Descends work work₁ words l st memo p stack r) where
   -- the pattern come to
@@ -48,7 +47,7 @@ module _ (work work₁ words : List ℕ) (l : Places) (st : Store) (memo : Memo)
   walked = apart_walk l work work₁ G.1.pending.readable.laid D.down.outside
 
   -- there is no room
-  pub puts_short : (work₂ words₂ : List ℕ) → NoRoom work₁ words l st memo q × Outside l.index (index_end l) work₁ work₂ → PutsOn work words work₂ words₂ l st memo p stack Short
+  pub puts_short : (work₂ words₂ : List ℕ) → NoRoom work₁ words l st memo q × Outside l.index (index_end l) work₁ work₂ → PutsOn work words work₂ words₂ l st memo p stack None
   puts_short work₂ words₂ N =
       let L = (down G.0 G.1).pending.readable.laid in
       record {
@@ -83,11 +82,11 @@ module _ (work work₁ words : List ℕ) (l : Places) (st : Store) (memo : Memo)
         omega (arith, a, gaps-same (values_in work l memo) (values_in work₁ l memo) l.room (λ o h. same o))
 
     -- a next one
-    pub puts_on : (next : ℕ) (rest : Stack) → Took (stacked r.under.at r.under.len work₂) r.under.at work₂ (Word next rest) → PutsOn work words work₂ words₂ l st memo p stack (On st₂ next rest)
+    pub puts_on : (next : ℕ) (rest : Stack) → Took (stacked r.under.at r.under.len work₂) r.under.at work₂ (Some (next, rest)) → PutsOn work words work₂ words₂ l st memo p stack (Some (On st₂ next rest))
     puts_on next rest T = record { apart = apart; stamp = stamp; grown = grown; less = less; goes = λ t H. going_next work₁ words l st memo q r.under t (down t H) ripe work₂ words₂ v st₂ F long next rest T }
 
     -- none
-    pub puts_done : Took (stacked r.under.at r.under.len work₂) r.under.at work₂ Empty → PutsOn work words work₂ words₂ l st memo p stack (Done st₂ v.0)
+    pub puts_done : Took (stacked r.under.at r.under.len work₂) r.under.at work₂ None → PutsOn work words work₂ words₂ l st memo p stack (Some (Done st₂ v.0))
     puts_done T = record { apart = apart; stamp = stamp; grown = grown; less = tt; goes = λ t H. going_done work₁ words l st memo q r.under t (down t H) ripe work₂ words₂ v st₂ F long T }
 
 -- turns so far
@@ -112,7 +111,7 @@ module _ (work words work₁ words₁ : List ℕ) (l : Places) (st st₁ : Store
   puts_asked e G = (G.0, from_start e G.0 G.1)
 
   -- one more
-  pub puts_more : (work₂ words₂ : List ℕ) (st₂ : Store) (p₂ : ℕ) (stack₂ : Stack) → PutsOn work₁ words₁ work₂ words₂ l st₁ memo p₁ stack₁ (On st₂ p₂ stack₂) → length words₂ ≡ length words₁ → PutsSince work words work₂ words₂ l st st₂ memo p p₂ stack stack₂
+  pub puts_more : (work₂ words₂ : List ℕ) (st₂ : Store) (p₂ : ℕ) (stack₂ : Stack) → PutsOn work₁ words₁ work₂ words₂ l st₁ memo p₁ stack₁ (Some (On st₂ p₂ stack₂)) → length words₂ ≡ length words₁ → PutsSince work words work₂ words₂ l st st₂ memo p p₂ stack stack₂
   puts_more work₂ words₂ st₂ p₂ stack₂ T long = record {
     apart = apart_then l work work₁ work₂ S.apart T.apart;
     stamp = T.stamp ∙ S.stamp;
@@ -122,7 +121,7 @@ module _ (work words work₁ words₁ : List ℕ) (l : Places) (st st₁ : Store
   }
 
   -- the last
-  pub puts_all : (work₂ words₂ : List ℕ) (st₂ : Store) (v : ℕ) (q : Pattern) → q.0 ≡ v → stack ≡ alone l → PutsOn work₁ words₁ work₂ words₂ l st₁ memo p₁ stack₁ (Done st₂ v) → PutAll work words work₂ words₂ l st memo p (interns.Id q st₂)
+  pub puts_all : (work₂ words₂ : List ℕ) (st₂ : Store) (v : ℕ) (q : Pattern) → q.0 ≡ v → stack ≡ alone l → PutsOn work₁ words₁ work₂ words₂ l st₁ memo p₁ stack₁ (Some (Done st₂ v)) → PutAll work words work₂ words₂ l st memo p (Some (q, st₂))
   puts_all work₂ words₂ st₂ v q i e T = record {
     apart = apart_then l work work₁ work₂ S.apart T.apart;
     stamp = T.stamp ∙ S.stamp;
@@ -131,7 +130,7 @@ module _ (work words work₁ words₁ : List ℕ) (l : Places) (st st₁ : Store
   }
 
   -- there is no room
-  pub puts_all_short : (work₂ words₂ : List ℕ) → stack ≡ alone l → PutsOn work₁ words₁ work₂ words₂ l st₁ memo p₁ stack₁ Short → PutAll work words work₂ words₂ l st memo p interns.Short
+  pub puts_all_short : (work₂ words₂ : List ℕ) → stack ≡ alone l → PutsOn work₁ words₁ work₂ words₂ l st₁ memo p₁ stack₁ None → PutAll work words work₂ words₂ l st memo p None
   puts_all_short work₂ words₂ e T = record {
     apart = apart_then l work work₁ work₂ S.apart T.apart;
     stamp = T.stamp ∙ S.stamp;

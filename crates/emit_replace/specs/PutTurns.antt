@@ -1,4 +1,5 @@
 -- A turn of replacing keeps what is left to be replaced.
+use Rattle.std.specs.Prelude.{Some, None}
 use Rattle.std.specs.Prelude.{◌≡◌, ℕ, suc, ◌+◌, ◌/◌, ◌≤◌, ◌<◌}
 use Rattle.std.proofs.Common.{sym, subst, ◌∙◌, arith, length-append}
 use Rattle.std.proofs.Math.Path.{ap}
@@ -12,7 +13,6 @@ use Rattle.base.specs.Outside.{Outside}
 use Rattle.base.specs.Stack.{stacked, Took}
 use Rattle.base.specs.declared.id.Pattern.{Pattern}
 use Rattle.base.specs.declared.stack.Stack.{Stack}
-use Rattle.base.specs.declared.stack.Popped.TheVariants.{Word, Empty}
 use Rattle.memo.specs.declared.memo.Memo.{Memo}
 use Rattle.store.specs.Words.{words_append}
 use Rattle.store.specs.Stored.{nodes}
@@ -121,7 +121,7 @@ module _ (work words : List ℕ) (l : Places) (st : Store) (memo : Memo) (q : �
     left = left-more t.x t.y t.d q v.0 (stacked stack.at stack.len work) s s' made ∙ G.left
 
     -- the next is to be replaced
-    pub going_next : (next : ℕ) (rest : Stack) → Took (stacked stack.at stack.len work') stack.at work' (Word next rest) → Going work' words' l st' memo next rest t
+    pub going_next : (next : ℕ) (rest : Stack) → Took (stacked stack.at stack.len work') stack.at work' (Some (next, rest)) → Going work' words' l st' memo next rest t
     going_next next rest T =
         let R : Readable work' words' l st' = record { laid = laid_on l work work' G.pending.readable.laid F.apart.long; room_is = G.pending.readable.room_is ∙ ap (λ (n : ℕ). n / 2) (sym long); stored = F.stored_on } in
         let N = pending_next work words l st memo q stack t.d G.pending work' F.apart.long same F.others words' st' R (rests_grow (suc t.d) s s' G.pending.rests grows) next rest T in
@@ -135,7 +135,7 @@ module _ (work words : List ℕ) (l : Places) (st : Store) (memo : Memo) (q : �
         }
 
     -- or nothing is left
-    pub going_done : Took (stacked stack.at stack.len work') stack.at work' Empty → Came work' words' l st' memo v.0 t
+    pub going_done : Took (stacked stack.at stack.len work') stack.at work' None → Came work' words' l st' memo v.0 t
     unfolding replace
     going_done T =
         let N = pending-last work words l st memo q stack t.d G.pending work' F.apart.long same F.others T in

@@ -1,4 +1,5 @@
 -- Patterns replaced one after the other.
+use Rattle.std.specs.Prelude.{Option, Some, None}
 use Rattle.std.specs.Prelude.{◌≡◌, List, ℕ, suc, ◌≤◌, ◌<◌, length, get_or}
 use Rattle.definition.specs.Pack.{Node, most_arity}
 use Rattle.definition.specs.Store.{pattern_words}
@@ -8,8 +9,6 @@ use Rattle.memo.specs.Recall.{Remembers}
 use Rattle.memo.specs.declared.memo.Memo.{Memo}
 use Rattle.store.specs.Stored.{Stored, nodes}
 use Rattle.store.specs.declared.nodes.Store.{Store}
-use Rattle.store.specs.declared.nodes.Interned.{Interned}
-use Rattle.store.specs.declared.nodes.Interned.TheVariants as interns
 use Rattle.emission.specs.Patterns.{replace}
 use Rattle.emit_state.specs.Places.{stamp_at, index_in, replaced_in}
 use Rattle.emit_state.specs.Grown.{Apart}
@@ -21,7 +20,8 @@ use Rattle.emit_replace.specs.Reading.{values_in}
 use Rattle.emit_replace.specs.Walking.{queue, Pending}
 use Rattle.emit_replace.specs.Asking.{alone}
 use Rattle.emit_replace.specs.declared.put.Turn.{Turn}
-use Rattle.emit_replace.specs.declared.put.Turn.TheVariants.{On, Done, Short}
+use Rattle.emit_replace.specs.declared.put.Turn.TheVariants.{On, Done}
+use Rattle.base.specs.declared.id.Pattern.{Pattern}
 
 -- y in place of x in pattern d, and the store that this comes to
 pub record Task : Type 0 where
@@ -51,25 +51,25 @@ pub record Came (work words : List ℕ) (l : Places) (st : Store) (memo : Memo) 
   pub value : one t.x t.y t.d t.d (nodes words st) ≡ stored v (nodes words st)
 
 -- where a turn leads
-abbrev pub PutsTo : List ℕ → List ℕ → List ℕ → Places → Memo → Task → Turn → Type 0
-PutsTo words work' words' l memo t (On st' p stack) = Going work' words' l st' memo p stack t
-PutsTo words work' words' l memo t (Done st' v) = Came work' words' l st' memo v t
-PutsTo words work' words' l memo t Short = length words < length (pattern_words t.final)
+abbrev pub PutsTo : List ℕ → List ℕ → List ℕ → Places → Memo → Task → Option Turn → Type 0
+PutsTo words work' words' l memo t (Some (On st' p stack)) = Going work' words' l st' memo p stack t
+PutsTo words work' words' l memo t (Some (Done st' v)) = Came work' words' l st' memo v t
+PutsTo words work' words' l memo t None = length words < length (pattern_words t.final)
 
 -- it leaves no pattern out
-abbrev pub TurnGrown : Store → Turn → Type 0
-TurnGrown st (On st' p stack) = st.len ≤ st'.len
-TurnGrown st (Done st' v) = st.len ≤ st'.len
-TurnGrown st Short = Unit {0}
+abbrev pub TurnGrown : Store → Option Turn → Type 0
+TurnGrown st (Some (On st' p stack)) = st.len ≤ st'.len
+TurnGrown st (Some (Done st' v)) = st.len ≤ st'.len
+TurnGrown st None = Unit {0}
 
 -- one value more
-abbrev pub TurnLess : List ℕ → List ℕ → Places → Memo → Turn → Type 0
-TurnLess work work' l memo (On st' p stack) = gaps (values_in work' l memo) l.room < gaps (values_in work l memo) l.room
-TurnLess work work' l memo (Done st' v) = Unit {0}
-TurnLess work work' l memo Short = Unit {0}
+abbrev pub TurnLess : List ℕ → List ℕ → Places → Memo → Option Turn → Type 0
+TurnLess work work' l memo (Some (On st' p stack)) = gaps (values_in work' l memo) l.room < gaps (values_in work l memo) l.room
+TurnLess work work' l memo (Some (Done st' v)) = Unit {0}
+TurnLess work work' l memo None = Unit {0}
 
 -- a turn
-pub record PutsOn (work words work' words' : List ℕ) (l : Places) (st : Store) (memo : Memo) (p : ℕ) (stack : Stack) (r : Turn) : Type 0 where
+pub record PutsOn (work words work' words' : List ℕ) (l : Places) (st : Store) (memo : Memo) (p : ℕ) (stack : Stack) (r : Option Turn) : Type 0 where
   pub apart : Apart l work work'
   pub stamp : get_or work' (stamp_at l) 0 ≡ get_or work (stamp_at l) 0
   pub grown : TurnGrown st r
@@ -81,17 +81,17 @@ abbrev pub PutsAll : List ℕ → List ℕ → Places → Store → Memo → ℕ
 PutsAll work words l st memo j = Puttable work words l st memo j (alone l)
 
 -- what they come to
-abbrev pub AllTo : List ℕ → List ℕ → List ℕ → Places → Memo → Task → Interned → Type 0
-AllTo words work' words' l memo t (interns.Id q st') = Came work' words' l st' memo q.0 t
-AllTo words work' words' l memo t interns.Short = length words < length (pattern_words t.final)
+abbrev pub AllTo : List ℕ → List ℕ → List ℕ → Places → Memo → Task → Option (Pattern × Store) → Type 0
+AllTo words work' words' l memo t (Some (q, st')) = Came work' words' l st' memo q.0 t
+AllTo words work' words' l memo t None = length words < length (pattern_words t.final)
 
 -- they leave no pattern out
-abbrev pub AllGrown : Store → Interned → Type 0
-AllGrown st (interns.Id q st') = st.len ≤ st'.len
-AllGrown st interns.Short = Unit {0}
+abbrev pub AllGrown : Store → Option (Pattern × Store) → Type 0
+AllGrown st (Some (q, st')) = st.len ≤ st'.len
+AllGrown st None = Unit {0}
 
 -- all of them
-pub record PutAll (work words work' words' : List ℕ) (l : Places) (st : Store) (memo : Memo) (j : ℕ) (r : Interned) : Type 0 where
+pub record PutAll (work words work' words' : List ℕ) (l : Places) (st : Store) (memo : Memo) (j : ℕ) (r : Option (Pattern × Store)) : Type 0 where
   pub apart : Apart l work work'
   pub stamp : get_or work' (stamp_at l) 0 ≡ get_or work (stamp_at l) 0
   pub grown : AllGrown st r

@@ -1,15 +1,17 @@
 -- What is read of patterns in a walk, and the values that they have in its memo.
-use Rattle.std.specs.Prelude.{◌≡◌, true, false, List, [], ℕ, ◌/◌, ◌≤◌, ◌<◌, length, get_or, set}
+use Rattle.std.specs.Option.{is_some, unwrap_or}
+use Rattle.std.specs.Prelude.{Option as Optional, Some, None}
+use Rattle.std.specs.Prelude.{◌≡◌, refl, true, false, List, [], ℕ, ◌/◌, ◌≤◌, ◌<◌, length, get_or, set}
 use Rattle.std.proofs.Common.{ap, ◌∙◌, arith, get_or-set_same, eq-eqb, ne_eqb}
 use Rattle.std.proofs.Math.Option.{Option, none, some}
 use Rattle.definition.specs.Pack.{Node}
 use Rattle.definition.specs.Good.{Below}
 use Rattle.definition.specs.Store.{variable_head, is_variable, below}
-use Rattle.definition.specs.Test.{is, see}
+use Rattle.definition.specs.Test.{is, see, never}
 use Rattle.definition.proofs.Laws.Grow.{below_at}
 use Rattle.theory.specs.Copies.Terms.{below-variable, below-applied}
 use Rattle.base.specs.Outside.{Outside, outside_then, outside_wider, outside_set}
-use Rattle.memo.specs.Recall.{recall, Remembers, length-recall}
+use Rattle.memo.specs.Recall.{known, recall, Remembers, length-recall}
 use Rattle.memo.specs.Lent.{recall_at, lent_long, lent-before, recall-before, Puts, Clears}
 use Rattle.memo.specs.declared.memo.Memo.{Memo}
 use Rattle.store.specs.Stored.{Stored, nodes}
@@ -17,6 +19,7 @@ use Rattle.store.specs.declared.nodes.Store.{Store}
 use Rattle.emit_state.specs.Places.{replaced_at, stamp_at, walk_at, index_in, replaced_in, Laid}
 use Rattle.emit_state.specs.declared.places.Places.{Places}
 use Rattle.emit_replace.specs.Again.{under}
+use Rattle.emit_replace.specs.Known.{valued}
 
 -- the patterns below a pattern
 abbrev pub args_in : List ℕ → Store → ℕ → List ℕ
@@ -110,3 +113,20 @@ module _ (work work₁ : List ℕ) (l : Places) (memo : Memo) (L : Laid work l) 
     here = P.here;
     others = λ q n. P.others q n ∙ recall-before (stamp_at l) (walk_at l) work₁ stamped stamped_outside (replaced_at l) (stamp_at l) (omega arith) (omega arith) (omega (arith, L.within, C.outside.long)) memo q ∙ C.empty q;
   }
+
+-- ---- what was asked for
+-- a value that is there
+pub some_known : (r : Optional ℕ) → is_some r ≡ true → (v : ℕ) × (known r ≡ some v)
+some_known (Some v) h = (v, refl)
+some_known None h = never (cc)
+
+-- or isn't
+pub none_known : (r : Optional ℕ) → is_some r ≡ false → known r ≡ none
+none_known (Some v) h = never (cc)
+none_known None h = refl
+
+-- the value, or 0
+pub known_or : (r : Optional ℕ) → unwrap_or r 0 ≡ valued (known r)
+unfolding valued
+known_or (Some v) = refl
+known_or None = refl

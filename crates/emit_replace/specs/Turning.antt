@@ -1,4 +1,5 @@
 -- From one pattern that gets its value to the next on the stack.
+use Rattle.std.specs.Prelude.{Some, None}
 use Rattle.std.specs.Prelude.{◌≡◌, List, [], ◌∷◌, ℕ, suc, ◌+◌, ◌≤◌, ◌<◌, length}
 use Rattle.std.proofs.Common.{sym, ap, subst, ◌∙◌, arith}
 use Rattle.std.proofs.Math.Option.{none, some}
@@ -6,7 +7,6 @@ use Rattle.definition.specs.Test.{never}
 use Rattle.base.specs.Outside.{Outside}
 use Rattle.base.specs.Stack.{stacked, stacked-same, Took}
 use Rattle.base.specs.declared.stack.Stack.{Stack}
-use Rattle.base.specs.declared.stack.Popped.TheVariants.{Word, Empty}
 use Rattle.memo.specs.Lent.{lent-before}
 use Rattle.memo.specs.Recall.{Remembers}
 use Rattle.memo.specs.declared.memo.Memo.{Memo}
@@ -55,7 +55,7 @@ module _ (work words : List ℕ) (l : Places) (st : Store) (memo : Memo) (q : �
       fewer_gaps v here = gaps_less (values_in work l memo) (values_in work' l memo) q v l.room pending-valued P.waits.1 here others
 
       -- the next one
-      pub pending_next : (words' : List ℕ) (st' : Store) → Readable work' words' l st' → Rests (suc d) (nodes words' st') → (next : ℕ) (rest : Stack) → Took (stacked stack.at stack.len work') stack.at work' (Word next rest)
+      pub pending_next : (words' : List ℕ) (st' : Store) → Readable work' words' l st' → Rests (suc d) (nodes words' st') → (next : ℕ) (rest : Stack) → Took (stacked stack.at stack.len work') stack.at work' (Some (next, rest))
           → Pending work' words' l st' memo next rest d × (stacked stack.at stack.len work ≡ queue work' next rest)
       pending_next words' st' R S next rest T =
           let e : stacked stack.at stack.len work ≡ queue work' next rest = sym on_stack ∙ T.2 ∙ ap (λ (a : ℕ). next ∷ stacked a rest.len work') (sym T.0) in
@@ -64,7 +64,7 @@ module _ (work words : List ℕ) (l : Places) (st : Store) (memo : Memo) (q : �
           (record { readable = R; rests = S; base = T.0 ∙ P.base; waits = waits_less (values_in work' l memo) d 0 (suc q) next (stacked rest.at rest.len work') (omega arith) z }, e)
 
       -- there is none
-      pub pending-last : Took (stacked stack.at stack.len work') stack.at work' Empty → (q ≡ d) × (stacked stack.at stack.len work ≡ [])
+      pub pending-last : Took (stacked stack.at stack.len work') stack.at work' None → (q ≡ d) × (stacked stack.at stack.len work ≡ [])
       pending-last T =
           let e : stacked stack.at stack.len work ≡ [] = sym on_stack ∙ T in
           let w : suc q ≡ suc d = subst (λ (ps : List ℕ). Waits (values_in work l memo) d (suc q) ps) e P.waits.2 in

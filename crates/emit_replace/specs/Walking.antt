@@ -1,4 +1,5 @@
 -- The walk down to a pattern whose arguments all have values: what waits on its stack, and what is left to be replaced.
+use Rattle.std.specs.Prelude.{Option, Some, None}
 use Rattle.std.specs.Prelude.{◌≡◌, refl, List, ◌∷◌, ℕ, suc, ◌+◌, ◌<◌, get_or, set}
 use Rattle.std.proofs.Common.{sym, ap, subst, ◌∙◌, arith}
 use Rattle.std.proofs.Math.Option.{none, some}
@@ -19,14 +20,12 @@ use Rattle.emit_replace.specs.Again.{Rests}
 use Rattle.emit_replace.specs.Known.{Values, Known, AllKnown, FirstOpen, Waits, waits_few, waits_same}
 use Rattle.emit_replace.specs.Right.{Right, right-same, argument_first}
 use Rattle.emit_replace.specs.Reading.{args_in, values_in, Readable, At, nodes-room}
-use Rattle.emit_replace.specs.declared.walk.Next.{Next}
-use Rattle.emit_replace.specs.declared.walk.Next.TheVariants.{Argument, Ripe}
 use Rattle.emit_replace.specs.declared.walk.Reached.{Reached}
 
 -- the first argument without a value, or none
-abbrev pub Opens : Values → List ℕ → Next → Type 0
-Opens μ args (Argument a) = FirstOpen μ args a
-Opens μ args Ripe = AllKnown μ args
+abbrev pub Opens : Values → List ℕ → Option ℕ → Type 0
+Opens μ args (Some a) = FirstOpen μ args a
+Opens μ args None = AllKnown μ args
 
 -- pattern p, and those on the stack that wait for it
 abbrev pub queue : List ℕ → ℕ → Stack → List ℕ

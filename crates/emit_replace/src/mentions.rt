@@ -7,7 +7,7 @@ ghost use Rattle.emit_replace.specs.Telling.{Mentionable, Tells};
 
 use crate::values::{argument, arguments, begin, remember, value_of};
 use crate::walk::descend;
-use base::stack::{Popped, Stack};
+use base::stack::Stack;
 use emit_state::places::Places;
 use emit_state::standing::Standing;
 use memo::memo::Memo;
@@ -36,13 +36,11 @@ fn mark_of(work: &[u32], words: &[u32], l: Places, st: Store, memo: Memo, p: u32
     ensures { result ≡ bit (any_one (values_in work.now l memo) (args_in words.now st p)) }
 {
     let n = arguments(work, words, l, st, p);
-    let mut i: usize = 0;
-    while i < n {
+    for i in 0..n {
         let a = argument(work, words, l, st, p, i);
         if value_of(work, l, memo, a) == Mark::YES {
             return Mark::YES;
         }
-        i += 1;
     }
     Mark::NO
 }
@@ -65,8 +63,8 @@ fn ask_turn(
     let mark = mark_of(work, words, l, st, memo, q);
     remember(work, l, memo, q, mark);
     match top.under.pop(work) {
-        Popped::Word(next, rest) => Told::On(next, rest),
-        Popped::Empty => Told::Done(mark),
+        Some((next, rest)) => Told::On(next, rest),
+        None => Told::Done(mark),
     }
 }
 

@@ -1,7 +1,6 @@
 // Another pattern put for L.
 ghost use Rattle.std.specs.Prelude.{◌+◌, ◌≤◌, ◌≡◌, length};
 ghost use Rattle.definition.specs.Pack.{most_arity};
-ghost use Rattle.emit_state.specs.Grown.{having_patterns};
 ghost use Rattle.emit_replace.specs.Reading.{args_in, At};
 ghost use Rattle.emit_replace.specs.Making.{Keyed, Makes, Finishable, Finishes};
 ghost use Rattle.emit_replace.specs.Putting.{Puttable, PutsOn, PutsAll, PutAll};
@@ -11,26 +10,18 @@ use crate::values::{argument, arguments, begin, remember, value_of};
 use crate::walk::descend;
 use base::id::Pattern;
 use base::limit::Limit;
-use base::stack::{Popped, Stack};
+use base::stack::Stack;
 use definition::{Buffer, Refusal};
 use emit_state::places::Places;
 use emit_state::standing::Standing;
 use memo::memo::Memo;
-use store::nodes::{Interned, Store};
+use store::nodes::Store;
 
-// What a pattern is replaced by, with the state; or a refusal, which is a short buffer.
-#[derive(Clone, Copy)]
-pub enum Replaced {
-    As(Standing, u32),
-    Refused(Refusal),
-}
-
-// The store, the next pattern, and those that wait behind it; or the store and the last one's value; or that there is no room for a node.
+// The store, the next pattern, and those that wait behind it; or the store and the last one's value.
 #[derive(Clone, Copy)]
 enum Turn {
     On(Store, u32, Stack),
     Done(Store, u32),
-    Short,
 }
 
 // The head of pattern `p`, then its arguments' values; how many words these are. What stands behind them is left open.
@@ -50,22 +41,27 @@ fn key_of(
     let from = l.index;
     let to = l.index_end();
     key[0] = st.head(&work[from..to], words, Pattern(p));
-    let mut i: usize = 0;
-    while i < n {
+    for i in 0..n {
         let a = argument(work, words, l, st, p, i);
-        i += 1;
-        key[i] = value_of(work, l, memo, a);
+        key[i + 1] = value_of(work, l, memo, a);
     }
     n + 1
 }
 
-// Pattern `p` over its arguments' values; itself if it has none.
-fn make(work: &mut [u32], words: &mut [u32], l: Places, st: Store, memo: Memo, p: u32) -> Interned
+// Pattern `p` over its arguments' values, itself if it has none, and the store that has it; none where there is no room for a node.
+fn make(
+    work: &mut [u32],
+    words: &mut [u32],
+    l: Places,
+    st: Store,
+    memo: Memo,
+    p: u32,
+) -> Option<(Pattern, Store)>
     requires { At work.old words.old l st p × (length (args_in words.old st p) ≤ most_arity) }
     ensures { Makes work.old words.old work.new words.new l st memo p result }
 {
     if arguments(work, words, l, st, p) == 0 {
-        return Interned::Id(Pattern(p), st);
+        return Some((Pattern(p), st));
     }
     let mut key = [0; Limit::KEY];
     let k = key_of(work, words, l, st, memo, p, &mut key);
@@ -74,21 +70,24 @@ fn make(work: &mut [u32], words: &mut [u32], l: Places, st: Store, memo: Memo, p
     st.intern(&mut work[from..to], words, &key[0..k])
 }
 
-// The same, and that is its value.
-fn finish(work: &mut [u32], words: &mut [u32], l: Places, st: Store, memo: Memo, p: u32) -> Interned
+// The same, and that is its value; none where there is no room for a node.
+fn finish(
+    work: &mut [u32],
+    words: &mut [u32],
+    l: Places,
+    st: Store,
+    memo: Memo,
+    p: u32,
+) -> Option<(Pattern, Store)>
     requires { Finishable work.old words.old l st memo p }
     ensures { Finishes work.old words.old work.new words.new l st memo p result }
 {
-    match make(work, words, l, st, memo, p) {
-        Interned::Id(q, more) => {
-            remember(work, l, memo, p, q.0);
-            Interned::Id(q, more)
-        }
-        Interned::Short => Interned::Short,
-    }
+    let (q, more) = make(work, words, l, st, memo, p)?;
+    remember(work, l, memo, p, q.0);
+    Some((q, more))
 }
 
-// One pattern more gets its value: one below `p`, or `p` itself.
+// One pattern more gets its value, one below `p`, or `p` itself; or there is no room for a node.
 fn put_turn(
     work: &mut [u32],
     words: &mut [u32],
@@ -97,21 +96,19 @@ fn put_turn(
     memo: Memo,
     p: u32,
     stack: Stack,
-) -> Turn
+) -> Option<Turn>
     requires { Puttable work.old words.old l st memo p stack }
     ensures { PutsOn work.old words.old work.new words.new l st memo p stack result }
 {
     let top = descend(work, words, l, st, memo, p, stack);
-    match finish(work, words, l, st, memo, top.pattern) {
-        Interned::Id(q, more) => match top.under.pop(work) {
-            Popped::Word(next, rest) => Turn::On(more, next, rest),
-            Popped::Empty => Turn::Done(more, q.0),
-        },
-        Interned::Short => Turn::Short,
+    let (q, more) = finish(work, words, l, st, memo, top.pattern)?;
+    match top.under.pop(work) {
+        Some((next, rest)) => Some(Turn::On(more, next, rest)),
+        None => Some(Turn::Done(more, q.0)),
     }
 }
 
-// The value of pattern `j`, by those of all below it, and the store that has it.
+// The value of pattern `j`, by those of all below it, and the store that has it; none where there is no room for a node.
 fn put_all(
     work: &mut [u32],
     words: &mut [u32],
@@ -119,7 +116,7 @@ fn put_all(
     st: Store,
     memo: Memo,
     j: u32,
-) -> Interned
+) -> Option<(Pattern, Store)>
     requires { PutsAll work.old words.old l st memo j }
     ensures { PutAll work.old words.old work.new words.new l st memo j result }
 {
@@ -130,41 +127,20 @@ fn put_all(
     };
     let mut grown = st;
     loop {
-        match put_turn(work, words, l, grown, memo, p, stack) {
+        match put_turn(work, words, l, grown, memo, p, stack)? {
             Turn::On(more, next, rest) => {
                 grown = more;
                 p = next;
                 stack = rest;
             }
             Turn::Done(more, v) => {
-                break Interned::Id(Pattern(v), more);
-            }
-            Turn::Short => {
-                break Interned::Short;
+                break Some((Pattern(v), more));
             }
         }
     }
 }
 
-// The state with another store.
-fn with_store(m: Standing, store: Store) -> Standing
-    ensures { result ≡ having_patterns store m }
-{
-    let failed = m.failed;
-    Standing {
-        store: store,
-        text: m.text,
-        steps: m.steps,
-        definitions: m.definitions,
-        variables: m.variables,
-        inductions: m.inductions,
-        trail: m.trail,
-        failed: failed,
-        hyps: m.hyps,
-    }
-}
-
-// Pattern `j` with pattern `y` in place of `x`.
+// Pattern `j` with pattern `y` in place of `x`, and the state that has it; refused where the pattern words are short.
 pub fn put_for(
     work: &mut [u32],
     words: &mut [u32],
@@ -173,17 +149,17 @@ pub fn put_for(
     x: u32,
     y: u32,
     j: u32,
-) -> Replaced
+) -> Result<(Standing, u32), Refusal>
     requires { Replaceable work.old words.old l m x y j }
     ensures grown { Grown m result }
     ensures comes { Replaces work.old words.old work.new words.new l m x y j result }
 {
     if j == x {
-        return Replaced::As(m, y);
+        return Ok((m, y));
     }
     let memo = begin(work, l, x, y);
-    match put_all(work, words, l, m.store, memo, j) {
-        Interned::Id(q, store) => Replaced::As(with_store(m, store), q.0),
-        Interned::Short => Replaced::Refused(Refusal::Short(Buffer::PATTERN)),
-    }
+    let Some((q, store)) = put_all(work, words, l, m.store, memo, j) else {
+        return Err(Refusal::Short(Buffer::PATTERN));
+    };
+    Ok((m.with_store(store), q.0))
 }

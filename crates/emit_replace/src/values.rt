@@ -9,7 +9,7 @@ ghost use Rattle.emit_replace.specs.Reading.{args_in, values_in, Readable, Begun
 
 use base::id::Pattern;
 use emit_state::places::Places;
-use memo::memo::{Known, Memo};
+use memo::memo::Memo;
 use memo::part::{clear, get, put};
 use store::nodes::Store;
 
@@ -36,8 +36,8 @@ pub fn argument(work: &[u32], words: &[u32], l: Places, st: Store, p: u32, i: us
     st.argument(&work[from..to], words, Pattern(p), i)
 }
 
-// What pattern `p` has for a value.
-pub fn look_up(work: &[u32], l: Places, memo: Memo, p: u32) -> Known
+// What pattern `p` has for a value, if it has one.
+pub fn look_up(work: &[u32], l: Places, memo: Memo, p: u32) -> Option<u32>
     requires { Laid work.now l × (p < l.room) }
     ensures { known result ≡ values_in work.now l memo p }
 {
@@ -51,10 +51,7 @@ pub fn value_of(work: &[u32], l: Places, memo: Memo, p: u32) -> u32
     requires { Laid work.now l × (p < l.room) }
     ensures { result ≡ value_of (values_in work.now l memo) p }
 {
-    match look_up(work, l, memo, p) {
-        Known::Value(v) => v,
-        Known::Nothing => 0,
-    }
+    look_up(work, l, memo, p).unwrap_or(0)
 }
 
 // `v` is the value of pattern `p`.

@@ -5,15 +5,8 @@ ghost use Rattle.emit_replace.specs.Walking.{Opens, Waiting, Descends};
 use crate::values::{argument, arguments, look_up};
 use base::stack::Stack;
 use emit_state::places::Places;
-use memo::memo::{Known, Memo};
+use memo::memo::Memo;
 use store::nodes::Store;
-
-// The first argument that has no value, or that all have one.
-#[derive(Clone, Copy)]
-pub enum Next {
-    Argument(u32),
-    Ripe,
-}
 
 // A pattern that is reached, and those that wait for it.
 #[derive(Clone, Copy)]
@@ -22,24 +15,19 @@ pub struct Reached {
     pub under: Stack,
 }
 
-// The first argument of pattern `p` that has no value.
-fn first_open(work: &[u32], words: &[u32], l: Places, st: Store, memo: Memo, p: u32) -> Next
+// The first argument of pattern `p` that has no value; none if all have one.
+fn first_open(work: &[u32], words: &[u32], l: Places, st: Store, memo: Memo, p: u32) -> Option<u32>
     requires { At work.now words.now l st p }
     ensures { Opens (values_in work.now l memo) (args_in words.now st p) result }
 {
     let n = arguments(work, words, l, st, p);
-    let mut i: usize = 0;
-    while i < n {
+    for i in 0..n {
         let a = argument(work, words, l, st, p, i);
-        match look_up(work, l, memo, a) {
-            Known::Value(_) => {}
-            Known::Nothing => {
-                return Next::Argument(a);
-            }
+        if look_up(work, l, memo, a).is_none() {
+            return Some(a);
         }
-        i += 1;
     }
-    Next::Ripe
+    None
 }
 
 // From pattern `p` down by first arguments that have no value, to one whose arguments all have one; those on the way wait.
@@ -59,11 +47,11 @@ pub fn descend(
     let mut wait = stack;
     loop {
         match first_open(work, words, l, st, memo, top) {
-            Next::Argument(a) => {
+            Some(a) => {
                 wait = wait.push(work, top);
                 top = a;
             }
-            Next::Ripe => {
+            None => {
                 break Reached {
                     pattern: top,
                     under: wait,

@@ -1,4 +1,5 @@
 -- The answers of the search's functions, by those of what they call.
+use Rattle.std.specs.Prelude.{Some, None, Ok, Err}
 use Rattle.std.specs.Prelude.{◌≡◌, refl, List, [], ℕ, suc, ◌+◌, ◌-◌, ◌*◌, ◌≤◌, ◌<◌, length, take}
 use Rattle.std.proofs.Common.{sym, ap, subst, ◌∙◌, arith, length-take}
 use Rattle.std.proofs.Math.Option.{Option, none, some}
@@ -14,7 +15,6 @@ use Rattle.emission.specs.Prove.{line_of, keeping, premises, by_rule, chain, pro
 use Rattle.text_write.specs.Written.{ends-whole}
 use Rattle.emit_theory.specs.Search.Proving.{Has, Judged, premises_comes, has_on}
 use Rattle.emit_maps.specs.Holds.{trailed_new}
-use Rattle.emit_maps.specs.declared.maps.Recall.TheVariants.{Number, Nothing}
 use Rattle.emit_state.specs.Places.{maps_of}
 use Rattle.emit_state.specs.Holding.{Buffers, lends, World, levels, Holding, Ready, Asked, Comes, Grown, Lined, Wrote, Answers}
 use Rattle.emit_state.specs.Frame.{having_work}
@@ -29,7 +29,7 @@ use Rattle.emit_premises.specs.Premised.{Premised}
 use Rattle.emit_search.specs.Trying.{deeper, finishing, AskedByRule, AnswersRule, AskedAll, AnswersAll}
 use Rattle.emit_search.specs.Turning.{prove-known, prove_deep, prove-got, prove-lost, prove-refused, prove_barren, failed_barren, rule-got, rule-lost, rule-refused}
 use Rattle.emit_search.specs.Asking.{remembering, failing, asked-room}
-use Rattle.emit_premises.specs.declared.premises.Premises.TheVariants.{Built, Lacks, Refused as NoRoom}
+use Rattle.emit_premises.specs.declared.premises.Premises.TheVariants.{Built, Lacks}
 
 -- what is later than a later one
 pub grown_then : (m t : Standing) (o : Proved) → m.store.len ≤ t.store.len → Grown t o → Grown m o
@@ -72,14 +72,14 @@ one_deeper b l w depth q e o h C = let z : levels - (depth + 1) ≡ 4096 - depth
 -- ---- one rule
 module _ (pack work work' pattern pattern' : List ℕ) (l : Places) (m : Standing) (j r depth : ℕ) (qs : List ℕ) where
   -- its premises are short of room
-  pub rule_short : (proof : List ℕ) (x : Refusal) → Premised pack work work' pattern pattern' qs l m j r (NoRoom x) → AnswersRule (lends pack work pattern proof) (lends pack work' pattern' proof) l m j r (λ w. by_rule w.setting (deeper w depth) j r) (Refused x)
+  pub rule_short : (proof : List ℕ) (x : Refusal) → Premised pack work work' pattern pattern' qs l m j r (Err x) → AnswersRule (lends pack work pattern proof) (lends pack work' pattern' proof) l m j r (λ w. by_rule w.setting (deeper w depth) j r) (Refused x)
   rule_short proof x F = record { grown = tt; comes = λ w e R h k. rule-refused w.lent w.setting (deeper w depth) j r e x (F.comes proof w e R h k) }
 
   -- its conclusion does not match, or leaves a variable open
-  pub rule_fails : (proof : List ℕ) (t : Standing) → Premised pack work work' pattern pattern' qs l m j r (Lacks t) → AnswersRule (lends pack work pattern proof) (lends pack work' pattern' proof) l m j r (λ w. by_rule w.setting (deeper w depth) j r) (Fails t)
+  pub rule_fails : (proof : List ℕ) (t : Standing) → Premised pack work work' pattern pattern' qs l m j r (Ok (Lacks t)) → AnswersRule (lends pack work pattern proof) (lends pack work' pattern' proof) l m j r (λ w. by_rule w.setting (deeper w depth) j r) (Fails t)
   rule_fails proof t F = record { grown = F.grown; comes = λ w e R h k. let C = F.comes proof w e R h k in (C.0, rule-lost w.lent w.setting (deeper w depth) j r e C.0 C.1, C.2) }
 
-  module _ (proof : List ℕ) (t : Standing) (n : ℕ) (F : Premised pack work work' pattern pattern' qs l m j r (Built t n)) (w : World) (e : Emitter) (R : Ready (lends pack work pattern proof) l m w e) (h : Has w.setting e prop j) (k : r < length w.setting.pack.rules) where
+  module _ (proof : List ℕ) (t : Standing) (n : ℕ) (F : Premised pack work work' pattern pattern' qs l m j r (Ok (Built t n))) (w : World) (e : Emitter) (R : Ready (lends pack work pattern proof) l m w e) (h : Has w.setting e prop j) (k : r < length w.setting.pack.rules) where
     -- the state behind them
     abbrev pub built-state : Emitter
     built-state = (F.comes proof w e R h k).0
@@ -94,7 +94,7 @@ module _ (pack work work' pattern pattern' : List ℕ) (l : Places) (m : Standin
         let O = goes_on w.lent S (λ ps e₁. Judged S e₁ ps) (premises S r j) e T (premises_comes S Q.good Q.few r j e k R.sound h) C.1 in
         (ready_on (lends pack work pattern proof) (lends pack work' pattern' proof) l m t w e (λ ps e₁. Judged S e₁ ps) T R O C.2, has_on S e C.0 O.grew prop j h, O.holds (take n qs) refl)
 
-  pub all_asked : (proof : List ℕ) (t : Standing) (n : ℕ) → Premised pack work work' pattern pattern' qs l m j r (Built t n) → AskedByRule (lends pack work pattern proof) l m j r → AskedAll (lends pack work' pattern' proof) l t j (take (n - 0) qs)
+  pub all_asked : (proof : List ℕ) (t : Standing) (n : ℕ) → Premised pack work work' pattern pattern' qs l m j r (Ok (Built t n)) → AskedByRule (lends pack work pattern proof) l m j r → AskedAll (lends pack work' pattern' proof) l t j (take (n - 0) qs)
   all_asked proof t n F A =
       let X = built_on proof t n F A.world A.state A.ready A.has A.rule in
       record {
@@ -107,7 +107,7 @@ module _ (pack work work' pattern pattern' : List ℕ) (l : Places) (m : Standin
       }
 
   -- they are proved in their order
-  pub rule_goes_on : (proof : List ℕ) (t : Standing) (n : ℕ) → Premised pack work work' pattern pattern' qs l m j r (Built t n) → (b'' : Buffers) (ps : List ℕ) (o : Proved)
+  pub rule_goes_on : (proof : List ℕ) (t : Standing) (n : ℕ) → Premised pack work work' pattern pattern' qs l m j r (Ok (Built t n)) → (b'' : Buffers) (ps : List ℕ) (o : Proved)
       → AnswersAll (lends pack work' pattern' proof) b'' l t j ps (λ w. finishing w.setting (deeper w depth) j r ps []) o → ps ≡ take n qs → AnswersRule (lends pack work pattern proof) b'' l m j r (λ w. by_rule w.setting (deeper w depth) j r) o
   rule_goes_on proof t n F b'' ps o G z = record {
     grown = grown_then m t o F.grown.0 G.grown;
@@ -139,13 +139,13 @@ module _ (b : Buffers) (l : Places) (m : Standing) (j depth : ℕ) where
   trying w = prove (levels - depth) w.setting w.hyps j
 
   -- there is a line
-  pub answers_known : (n : ℕ) → Recalls b.work l j (Number n) → Answers b b l m j trying (Line m n)
+  pub answers_known : (n : ℕ) → Recalls b.work l j (Some n) → Answers b b l m j trying (Line m n)
   answers_known n K = record {
     grown = omega arith;
     comes = λ w e R h. (e, prove-known w.lent w.setting w.hyps j e (levels - depth) n (K.value _ _ _ _ _ R.holding.maps ∙ either-line w.hyps e j), R.holding);
   }
 
-  module _ (K : Recalls b.work l j Nothing) where
+  module _ (K : Recalls b.work l j None) where
     no_line : (w : World) (e : Emitter) → Holding b l m w e → none ≡ line_of w.hyps e j
     no_line w e H = K.value _ _ _ _ _ H.maps ∙ either-line w.hyps e j
 

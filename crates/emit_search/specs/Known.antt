@@ -1,4 +1,5 @@
 -- Judgments that have a line: asked for, and remembered.
+use Rattle.std.specs.Prelude.{Option as Optional, Some, None}
 use Rattle.std.specs.Prelude.{◌≡◌, refl, List, [], ◌∷◌, ℕ, ◌+◌, length, get_or}
 use Rattle.std.proofs.Common.{sym, ap, subst, ◌∙◌, arith}
 use Rattle.std.proofs.Math.Option.{Option, none, some}
@@ -13,8 +14,6 @@ use Rattle.emission.specs.Prove.{keeping}
 use Rattle.emit_maps.specs.Map.{start}
 use Rattle.emit_maps.specs.Holds.{Holds, Looks, Enters, recalled, holds_proved}
 use Rattle.emit_maps.specs.Trail.{Counted}
-use Rattle.emit_maps.specs.declared.maps.Recall.{Recall}
-use Rattle.emit_maps.specs.declared.maps.Recall.TheVariants.{Number, Nothing}
 use Rattle.emit_state.specs.Places.{maps_of, failed_at, replaced_at, failed_in, Laid, SameIn}
 use Rattle.emit_state.specs.Holding.{Buffers, World, Holding}
 use Rattle.emit_state.specs.Frame.{laid_on, failed_on, maps_on, trail_on, since_on, having_work}
@@ -27,7 +26,7 @@ unfoldable pub either : Option ℕ → Option ℕ → Option ℕ
 either (some n) o = some n
 either none o = o
 
-pub record Recalls (work : List ℕ) (l : Places) (j : ℕ) (r : Recall) : Type 0 where
+pub record Recalls (work : List ℕ) (l : Places) (j : ℕ) (r : Optional ℕ) : Type 0 where
   pub value : (ps ds fs ns hs : List Bound) → Holds work (maps_of l) ps ds fs ns hs → recalled r ≡ either (value_of j ps) (value_of j hs)
 
 -- what `remember` asks of work
@@ -43,12 +42,12 @@ pub record Remembered (work work' : List ℕ) (l : Places) (m : Standing) (j n :
 
 -- ---- laws
 -- a line that was proved
-pub recalls_proved : (work : List ℕ) (l : Places) (j n : ℕ) → Looks work (maps_of l) 0 j (Number n) → Recalls work l j (Number n)
+pub recalls_proved : (work : List ℕ) (l : Places) (j n : ℕ) → Looks work (maps_of l) 0 j (Some n) → Recalls work l j (Some n)
 unfolding either
 recalls_proved work l j n K = record { value = λ ps ds fs ns hs H. ap (λ (o : Option ℕ). either o (value_of j hs)) (K.value ps H.proved) }
 
 -- none was, so the hypotheses answer
-pub recalls_supposed : (work : List ℕ) (l : Places) (j : ℕ) (r : Recall) → Looks work (maps_of l) 0 j Nothing → Looks work (maps_of l) 4 j r → Recalls work l j r
+pub recalls_supposed : (work : List ℕ) (l : Places) (j : ℕ) (r : Optional ℕ) → Looks work (maps_of l) 0 j None → Looks work (maps_of l) 4 j r → Recalls work l j r
 unfolding either
 recalls_supposed work l j r K I = record { value = λ ps ds fs ns hs H. I.value hs H.hyps ∙ ap (λ (o : Option ℕ). either o (value_of j hs)) (K.value ps H.proved) }
 

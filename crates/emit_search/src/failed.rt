@@ -3,7 +3,7 @@ ghost use Rattle.emit_search.specs.Failed.{Failing, GivenUp, Noted};
 
 use emit_state::places::Places;
 use emit_state::standing::Standing;
-use memo::memo::{Known, Memo};
+use memo::memo::Memo;
 use memo::part::{get, put};
 
 // How deep a proof goes: "`prove` fails below depth 4,096".
@@ -26,8 +26,8 @@ pub fn gives_up(work: &[u32], l: Places, failed: Memo, j: u32, depth: u32) -> bo
     let from = l.failed();
     let to = l.replaced();
     match get(work, from, to, failed, j as usize) {
-        Known::Value(k) => k <= depth,
-        Known::Nothing => false,
+        Some(k) => k <= depth,
+        None => false,
     }
 }
 
@@ -41,6 +41,5 @@ pub fn note_failed(work: &mut [u32], l: Places, text: usize, m: Standing, j: u32
     }
     let from = l.failed();
     let to = l.replaced();
-    let failed = m.failed;
-    put(work, from, to, failed, j as usize, depth);
+    put(work, from, to, m.failed, j as usize, depth);
 }

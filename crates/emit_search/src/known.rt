@@ -5,22 +5,22 @@ ghost use Rattle.emit_state.specs.Places.{maps_of};
 ghost use Rattle.emit_maps.specs.Map.{Laid};
 ghost use Rattle.emit_search.specs.Known.{Recalls, Remembering, Remembered};
 
-use emit_maps::maps::{Maps, Recall, look};
+use emit_maps::maps::{Maps, look};
 use emit_maps::trail::enter;
 use emit_state::places::Places;
 use emit_state::standing::Standing;
 use memo::part::clear;
 use store::nodes::Store;
 
-// The line of a judgment that was proved, else of one that is supposed.
-pub fn known(work: &[u32], l: Places, j: u32) -> Recall
+// The line of a judgment that was proved, else of one that is supposed; none if it is neither.
+pub fn known(work: &[u32], l: Places, j: u32) -> Option<u32>
     requires { Laid work.now (maps_of l) × (j < l.room) }
     ensures { Recalls work.now l j result }
 {
     let maps = l.maps();
     match look(work, maps, Maps::PROVED, j) {
-        Recall::Number(n) => Recall::Number(n),
-        Recall::Nothing => look(work, maps, Maps::HYPS, j),
+        Some(n) => Some(n),
+        None => look(work, maps, Maps::HYPS, j),
     }
 }
 

@@ -8,7 +8,6 @@ use crate::failed::{Depth, gives_up, note_failed};
 use crate::known::{known, remember};
 use crate::rules::{first_rule, next_rule};
 use base::limit::Limit;
-use emit_maps::maps::Recall;
 use emit_premises::premises::Premises;
 use emit_premises::rule::premises;
 use emit_state::places::Places;
@@ -30,10 +29,10 @@ pub fn prove(
     ensures { Answers (lends pack.now work.old words.old proof.old) (lends pack.now work.new words.new proof.new) l m j (λ w. proving (levels - depth) w.setting w.hyps j) result }
 {
     match known(work, l, j) {
-        Recall::Number(n) => {
+        Some(n) => {
             return Proved::Line(m, n);
         }
-        Recall::Nothing => {}
+        None => {}
     }
     if gives_up(work, l, m.failed, j, depth) {
         return Proved::Fails(m);
@@ -104,9 +103,9 @@ fn by_rule(
 {
     let mut qs = [0; Limit::PREMISES];
     match premises(pack, work, words, l, m, j, r, &mut qs) {
-        Premises::Refused(x) => Proved::Refused(x),
-        Premises::Lacks(t) => Proved::Fails(t),
-        Premises::Built(t, n) => prove_all(
+        Err(x) => Proved::Refused(x),
+        Ok(Premises::Lacks(t)) => Proved::Fails(t),
+        Ok(Premises::Built(t, n)) => prove_all(
             pack,
             work,
             words,
@@ -137,10 +136,10 @@ fn prove_premise(
     ensures { Answers (lends pack.now work.old words.old proof.old) (lends pack.now work.new words.new proof.new) l m j (λ w. proving (levels - depth) w.setting w.hyps j) result }
 {
     match known(work, l, j) {
-        Recall::Number(n) => {
+        Some(n) => {
             return Proved::Line(m, n);
         }
-        Recall::Nothing => {}
+        None => {}
     }
     if gives_up(work, l, m.failed, j, depth) {
         return Proved::Fails(m);
@@ -174,8 +173,7 @@ fn prove_all(
     ensures line { Lined result }
 {
     let mut t = m;
-    let mut i: usize = 0;
-    while i < qs.len() {
+    for i in 0..qs.len() {
         match prove_premise(pack, work, words, proof, l, t, qs[i], depth + 1) {
             Proved::Line(u, k) => {
                 t = u;
@@ -188,7 +186,6 @@ fn prove_all(
                 return Proved::Refused(x);
             }
         }
-        i += 1;
     }
     write_step(pack, work, words, proof, l, t, j, r, qs)
 }

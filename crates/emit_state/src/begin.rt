@@ -44,8 +44,7 @@ fn begin_chains(pack: &[u8], work: &mut [u32], l: Places)
     requires { Held pack.now work.old l.hand.catalog × Laid work.old l }
     ensures { ChainsMade pack.now work.old work.new l }
 {
-    let hand = l.hand;
-    let catalog = hand.catalog;
+    let catalog = l.hand.catalog;
     chain_rules(pack, work, catalog, l.rules());
     chain_constructors(pack, work, catalog, l.constructors());
 }
@@ -65,7 +64,7 @@ pub fn begin(pack: &[u8], work: &mut [u32], words: &[u32], l: Places, st: Store)
         variables: 0,
         inductions: 0,
         trail: 0,
-        failed: failed,
+        failed,
         hyps: 0,
     }
 }

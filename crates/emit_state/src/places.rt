@@ -105,18 +105,13 @@ impl Places {
         requires { Small self }
         ensures { result ≡ matching_of self st }
     {
-        let hand = self.hand;
-        let catalog = hand.catalog;
-        let end = self.index_end();
-        let values = self.values();
-        let stack = self.pending();
         Matching {
-            catalog: catalog,
+            catalog: self.hand.catalog,
             store: st,
             index: self.index,
-            end: end,
-            values: values,
-            stack: stack,
+            end: self.index_end(),
+            values: self.values(),
+            stack: self.pending(),
         }
     }
 
@@ -128,7 +123,7 @@ impl Places {
         let first = self.pending() + Limit::WORDS;
         let many = self.hand.catalog.cap;
         Chains {
-            first: first,
+            first,
             keys: many,
             next: first + many,
             items: many,
@@ -143,7 +138,7 @@ impl Places {
         let many = self.hand.catalog.cap;
         let first = self.pending() + Limit::WORDS + Places::CHAIN * many;
         Chains {
-            first: first,
+            first,
             keys: many,
             next: first + many,
             items: many,

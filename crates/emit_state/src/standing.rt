@@ -34,18 +34,7 @@ impl Standing {
     pub fn with_store(self, store: Store) -> Standing
         ensures { result ≡ having_patterns store self }
     {
-        let failed = self.failed;
-        Standing {
-            store: store,
-            text: self.text,
-            steps: self.steps,
-            definitions: self.definitions,
-            variables: self.variables,
-            inductions: self.inductions,
-            trail: self.trail,
-            failed: failed,
-            hyps: self.hyps,
-        }
+        Standing { store, ..self }
     }
 }
 

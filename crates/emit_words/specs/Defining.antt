@@ -1,4 +1,5 @@
 -- A pattern is defined: its line stands behind the text, and its entry in work.
+use Rattle.std.specs.Prelude.{Option, Some, None}
 use Rattle.std.specs.Prelude.{◌≡◌, refl, List, [], ◌∷◌, map, ℕ, suc, ◌+◌, ◌≤◌, ◌<◌, length, get_or}
 use Rattle.std.proofs.Common.{sym, ap, subst, add-one, arith}
 use Rattle.std.proofs.Math.Option.{none, some}
@@ -31,8 +32,6 @@ use Rattle.emit_words.specs.Enough.{namings}
 use Rattle.emit_words.specs.Pending.{pending, Waits, grew_def, sound_define, define-room, define_short, define_waits}
 use Rattle.emit_words.specs.Spelling.{pattern_is}
 use Rattle.emit_words.specs.Putting.{Placed, Whole, PutsOver}
-use Rattle.emit_words.specs.declared.define.Defined.{Defined}
-use Rattle.emit_words.specs.declared.define.Defined.TheVariants.{Line as Defined-as-Line, Short}
 
 -- p has no word, and its arguments have theirs
 pub record Defining (b : Buffers) (l : Places) (m : Standing) (w : World) (e : Emitter) (p : ℕ) : Type 0 where
@@ -64,9 +63,9 @@ pub record DefinedBy (b b' : Buffers) (l : Places) (m t : Standing) : Type 0 whe
   pub outside : Outside l.at (failed_at l) b.work b'.work
 
 -- what `define` answers
-abbrev pub Defines : Buffers → Buffers → Places → Standing → ℕ → Defined → Type 0
-Defines b b' l m p (Defined-as-Line t) = DefinedBy b b' l m t × ((w : World) (e : Emitter) → Defining b l m w e p → DefinedIn b' l t w e p)
-Defines b b' l m p Short = (w : World) (e : Emitter) → Defining b l m w e p → (j : ℕ) (ps : List ℕ) → ran w.lent (pending w.setting j (p ∷ ps)) e ≡ refuse (Refusal-as-Short 5)
+abbrev pub Defines : Buffers → Buffers → Places → Standing → ℕ → Option Standing → Type 0
+Defines b b' l m p (Some t) = DefinedBy b b' l m t × ((w : World) (e : Emitter) → Defining b l m w e p → DefinedIn b' l t w e p)
+Defines b b' l m p None = (w : World) (e : Emitter) → Defining b l m w e p → (j : ℕ) (ps : List ℕ) → ran w.lent (pending w.setting j (p ∷ ps)) e ≡ refuse (Refusal-as-Short 5)
 
 -- one definition more in the counts
 abbrev pub one_more_of : Standing → Tally

@@ -1,4 +1,6 @@
 -- The arguments of a key one by one: the first without a word, and the words of all.
+use Rattle.std.specs.Option.{is_some, unwrap_or}
+use Rattle.std.specs.Prelude.{Option, Some, None, true, false}
 use Rattle.std.specs.Prelude.{◌≡◌, refl, List, [], ◌∷◌, ℕ, zero, suc, ◌+◌, ◌-◌, ◌≤◌, ◌<◌, length, get_or, drop, set}
 use Rattle.std.proofs.Common.{sym, ap, ◌∙◌, arith, length-drop, get_or-set_same, get_or-set_other}
 use Rattle.std.proofs.Math.Option.{none, some}
@@ -10,9 +12,6 @@ use Rattle.emit_state.specs.declared.places.Places.{Places}
 use Rattle.emit_state.specs.declared.standing.Standing.{Standing}
 use Rattle.emit_words.specs.First.{Worded}
 use Rattle.emit_words.specs.Spelling.{InEach, spelled, Spelled, Numbers, Lacked, Gathered}
-use Rattle.emit_words.specs.declared.spell.Spelt.{Spelt}
-use Rattle.emit_words.specs.declared.spell.Spelt.TheVariants.{Number, Nothing}
-use Rattle.emit_words.specs.declared.gather.Lacking.TheVariants.{Argument, Nothing as Lacking-as-Nothing}
 
 -- an argument of a key
 argument_at : (key : List ℕ) (k : ℕ) → get_or (drop 1 key) k 0 ≡ get_or key (suc k) 0
@@ -34,20 +33,20 @@ module _ (work words : List ℕ) (l : Places) (m : Standing) (key : List ℕ) wh
     here : (k : ℕ) → k ≡ i - 1 → get_or (drop 1 key) k 0 ≡ get_or key i 0
     here k z = argument_at key k ∙ (let q : suc k ≡ i = omega arith in ap (λ (n : ℕ). get_or key n 0) q)
 
-    module _ (P : Passed i) (r : Spelt) (T : Spelled work words l m (get_or key i 0) r) where
+    module _ (P : Passed i) (r : Option ℕ) (T : Spelled work words l m (get_or key i 0) r) where
       -- one more has a word
-      pub passed_more : (x : ℕ) → r ≡ Number x → Passed (i + 1)
+      pub passed_more : (x : ℕ) → r ≡ Some x → Passed (i + 1)
       passed_more x q pack proof w e R k h = elim (ℕ_discrete k (i - 1)) [
         | yes z ↦ (word_in x, ap (word_of e) (here k z) ∙ sym (T pack proof w e R) ∙ ap spelled q)
         | no z ↦ P pack proof w e R k (omega arith)
       ]
 
       -- or it is the first that has none
-      pub passed_found : i < length key → r ≡ Nothing → Lacked work words l m (drop 1 key) (Argument (get_or key i 0))
+      pub passed_found : i < length key → r ≡ None → Lacked work words l m (drop 1 key) (Some (get_or key i 0))
       passed_found h q pack proof w e R = (i - 1, (let z = length-drop 1 key in omega arith), here (i - 1) refl, P pack proof w e R, sym (T pack proof w e R) ∙ ap spelled q)
 
     -- all have words
-    pub passed_all : length key ≤ i → Passed i → Lacked work words l m (drop 1 key) Lacking-as-Nothing
+    pub passed_all : length key ≤ i → Passed i → Lacked work words l m (drop 1 key) None
     passed_all h P pack proof w e R k z = P pack proof w e R k (let q = length-drop 1 key in omega arith)
 
     -- one number more
@@ -70,11 +69,26 @@ module _ (work words : List ℕ) (l : Places) (m : Standing) (key : List ℕ) wh
   gathered_all xs i low h G pack proof w e R all k z = G pack proof w e R all k (let q = length-drop 1 key in omega arith)
 
 -- ---- the number of a word
-module _ (work words : List ℕ) (l : Places) (m : Standing) (p : ℕ) (r : Spelt) (T : Spelled work words l m p r) where
+module _ (work words : List ℕ) (l : Places) (m : Standing) (p : ℕ) (r : Option ℕ) (T : Spelled work words l m p r) where
   -- it has one
-  pub number_is : (x : ℕ) → r ≡ Number x → Numbers work words l m p x
+  pub number_is : (x : ℕ) → r ≡ Some x → Numbers work words l m p x
   number_is x q pack proof w e R v z = sym (T pack proof w e R) ∙ ap spelled q
 
   -- it has none
-  pub number_none : r ≡ Nothing → (x : ℕ) → Numbers work words l m p x
+  pub number_none : r ≡ None → (x : ℕ) → Numbers work words l m p x
   number_none q x pack proof w e R v z = never (let y : none ≡ some v = sym (ap spelled q) ∙ T pack proof w e R ∙ z in cc)
+
+-- the number of whatever word it has
+pub number_or : (work words : List ℕ) (l : Places) (m : Standing) (p : ℕ) (r : Option ℕ) → Spelled work words l m p r → Numbers work words l m p (unwrap_or r 0)
+number_or work words l m p (Some x) T = number_is work words l m p (Some x) T x refl
+number_or work words l m p None T = number_none work words l m p None T refl 0
+
+-- a word that is there
+pub some_word : (r : Option ℕ) → is_some r ≡ true → (x : ℕ) × (r ≡ Some x)
+some_word (Some x) h = (x, refl)
+some_word None h = never (cc)
+
+-- or isn't
+pub no_word : (r : Option ℕ) → is_some r ≡ false → r ≡ None
+no_word (Some x) h = never (cc)
+no_word None h = refl

@@ -1,4 +1,5 @@
 -- The walk from turn to turn, until all arguments of a judgment have words.
+use Rattle.std.specs.Prelude.{Option, Some, None}
 use Rattle.std.specs.Prelude.{◌≡◌, refl, ℕ}
 use Rattle.std.proofs.Common.{sym, ◌∙◌}
 use Rattle.std.proofs.Math.Path.{ap, subst}
@@ -20,9 +21,7 @@ use Rattle.emit_words.specs.Pending.{pending}
 use Rattle.emit_words.specs.Putting.{Placed, Whole}
 use Rattle.emit_words.specs.Walking.{waiting, Walks, Walking, Turned}
 use Rattle.emit_words.specs.declared.walk.Turn.{Turn}
-use Rattle.emit_words.specs.declared.walk.Turn.TheVariants.{Next, Done, Short}
-use Rattle.emit_words.specs.declared.walk.Named.{Named}
-use Rattle.emit_words.specs.declared.walk.Named.TheVariants.{All, Short as Named-as-Short}
+use Rattle.emit_words.specs.declared.walk.Turn.TheVariants.{Next, Done}
 
 -- a state later in which all arguments of j have words, and j's words are the same
 pub record Prepared (b : Buffers) (l : Places) (t : Standing) (w : World) (e : Emitter) (j : ℕ) : Type 0 where
@@ -33,9 +32,9 @@ pub record Prepared (b : Buffers) (l : Places) (t : Standing) (w : World) (e : E
   pub same : ran w.lent (judgment w.setting j) e ≡ ran w.lent (judgment w.setting j) state
 
 -- what the walk answers
-abbrev pub Readied : Buffers → Buffers → Places → Standing → ℕ → Named → Type 0
-Readied b b' l m j (All t) = (t.store ≡ m.store) × ((w : World) (e : Emitter) → Ready b l m w e → Has w.setting e prop j → Prepared b' l t w e j)
-Readied b b' l m j Named-as-Short = (w : World) (e : Emitter) → Ready b l m w e → Has w.setting e prop j → ran w.lent (judgment w.setting j) e ≡ refuse (Refusal-as-Short 5)
+abbrev pub Readied : Buffers → Buffers → Places → Standing → ℕ → Option Standing → Type 0
+Readied b b' l m j (Some t) = (t.store ≡ m.store) × ((w : World) (e : Emitter) → Ready b l m w e → Has w.setting e prop j → Prepared b' l t w e j)
+Readied b b' l m j None = (w : World) (e : Emitter) → Ready b l m w e → Has w.setting e prop j → ran w.lent (judgment w.setting j) e ≡ refuse (Refusal-as-Short 5)
 
 -- what is to do is what was to do at first
 pub record Way (b : Buffers) (l : Places) (m : Standing) (w : World) (e : Emitter) (j : ℕ) (s : Stack) : Type 0 where
@@ -69,9 +68,9 @@ module _ (b₀ b : Buffers) (l : Places) (m₀ m : Standing) (j : ℕ) (s : Stac
   pub reached_walking : Walking b l m j s
   reached_walking = let y = G.way A.world A.state A.ready A.has in record { world = A.world; state = y.state; walks = y.walks; at = G.at }
 
-  module _ (b' : Buffers) (r : Turn) (T : Turned b b' l m j s r) where
+  module _ (b' : Buffers) (r : Option Turn) (T : Turned b b' l m j s r) where
     -- a turn more
-    pub reached_more : (t : Standing) (u : Stack) → r ≡ Next t u → Reached b₀ b' l m₀ t j u
+    pub reached_more : (t : Standing) (u : Stack) → r ≡ Some (Next t u) → Reached b₀ b' l m₀ t j u
     reached_more t u q =
         let N = subst (Turned b b' l m j s) q T in
         record {
@@ -84,7 +83,7 @@ module _ (b₀ b : Buffers) (l : Places) (m₀ m : Standing) (j : ℕ) (s : Stac
         }
 
     -- the last
-    pub reached_done : r ≡ Done → Readied b₀ b' l m₀ j (All m)
+    pub reached_done : r ≡ Some Done → Readied b₀ b' l m₀ j (Some m)
     unfolding pending
     reached_done q =
         let N = subst (Turned b b' l m j s) q T in (
@@ -96,13 +95,13 @@ module _ (b₀ b : Buffers) (l : Places) (m₀ m : Standing) (j : ℕ) (s : Stac
         )
 
     -- or the text was short
-    pub reached_short : r ≡ Short → Readied b₀ b' l m₀ j Named-as-Short
+    pub reached_short : r ≡ None → Readied b₀ b' l m₀ j None
     reached_short q w e R H =
         let y = G.way w e R H in
         y.same ∙ (subst (Turned b b' l m j s) q T) w y.state y.walks
 
 -- the judgment is an application
-pub readied_placed : (b b' : Buffers) (l : Places) (m t : Standing) (j : ℕ) → Asked b l m j → (r : Named) → r ≡ All t → Readied b b' l m j r → Placed b' l t j
+pub readied_placed : (b b' : Buffers) (l : Places) (m t : Standing) (j : ℕ) → Asked b l m j → (r : Option Standing) → r ≡ Some t → Readied b b' l m j r → Placed b' l t j
 readied_placed b b' l m t j A r q N =
     let P = (subst (Readied b b' l m j) q N).1 A.world A.state A.ready A.has in
     record { world = A.world; state = P.state; ready = P.ready; there = P.has.stored; applied = judgment-applied A.world.setting P.state P.ready.sound j P.has }

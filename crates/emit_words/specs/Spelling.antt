@@ -1,4 +1,5 @@
 -- The word that a pattern has already, as code finds it.
+use Rattle.std.specs.Prelude.{Option as Optional, Some, None}
 use Rattle.std.specs.Prelude.{◌≡◌, List, ℕ, ◌≤◌, ◌<◌, length, get_or}
 use Rattle.std.proofs.Common.{ap, arith}
 use Rattle.std.proofs.Math.Option.{Option, none, some}
@@ -14,10 +15,6 @@ use Rattle.emit_state.specs.Grown.{store_room}
 use Rattle.emit_state.specs.declared.places.Places.{Places}
 use Rattle.emit_state.specs.declared.standing.Standing.{Standing}
 use Rattle.emit_words.specs.First.{Worded}
-use Rattle.emit_words.specs.declared.spell.Spelt.{Spelt}
-use Rattle.emit_words.specs.declared.spell.Spelt.TheVariants.{Number as Spelt-as-Number, Nothing as Spelt-as-Nothing}
-use Rattle.emit_words.specs.declared.gather.Lacking.{Lacking}
-use Rattle.emit_words.specs.declared.gather.Lacking.TheVariants.{Argument, Nothing as Lacking-as-Nothing}
 
 -- work and the patterns' words are those of a state that has pattern p
 pub record Knows (work words : List ℕ) (l : Places) (m : Standing) (p : ℕ) : Type 0 where
@@ -43,16 +40,16 @@ abbrev pub InEach : List ℕ → List ℕ → Places → Standing → (World →
 InEach work words l m F = (pack proof : List ℕ) (w : World) (e : Emitter) → Ready (lends pack work words proof) l m w e → F w e
 
 -- the answer as an option
-abbrev pub spelled : Spelt → Option Word
-spelled (Spelt-as-Number x) = some (word_in x)
-spelled Spelt-as-Nothing = none
+abbrev pub spelled : Optional ℕ → Option Word
+spelled (Some x) = some (word_in x)
+spelled None = none
 
 -- it is the word of p
-abbrev pub Spelled : List ℕ → List ℕ → Places → Standing → ℕ → Spelt → Type 0
+abbrev pub Spelled : List ℕ → List ℕ → Places → Standing → ℕ → Optional ℕ → Type 0
 Spelled work words l m p r = InEach work words l m (λ w e. spelled r ≡ word_of e p)
 
 -- if p is no case variable
-abbrev pub SpelledUnnamed : List ℕ → List ℕ → Places → Standing → ℕ → Spelt → Type 0
+abbrev pub SpelledUnnamed : List ℕ → List ℕ → Places → Standing → ℕ → Optional ℕ → Type 0
 SpelledUnnamed work words l m p r = InEach work words l m (λ w e. value_of p e.undone.names ≡ none → spelled r ≡ word_of e p)
 
 -- x is the number of the word of p, if it has one
@@ -60,12 +57,12 @@ abbrev pub Numbers : List ℕ → List ℕ → Places → Standing → ℕ → �
 Numbers work words l m p x = InEach work words l m (λ w e. (v : Word) → word_of e p ≡ some v → word_of e p ≡ some (word_in x))
 
 -- the first of some patterns that has no word, or all have one
-abbrev pub Lacks : Emitter → List ℕ → Lacking → Type 0
-Lacks e ps (Argument a) = (i : ℕ) × (i < length ps) × (get_or ps i 0 ≡ a) × Worded e ps i × (word_of e a ≡ none)
-Lacks e ps Lacking-as-Nothing = Worded e ps (length ps)
+abbrev pub Lacks : Emitter → List ℕ → Optional ℕ → Type 0
+Lacks e ps (Some a) = (i : ℕ) × (i < length ps) × (get_or ps i 0 ≡ a) × Worded e ps i × (word_of e a ≡ none)
+Lacks e ps None = Worded e ps (length ps)
 
 -- in every state
-abbrev pub Lacked : List ℕ → List ℕ → Places → Standing → List ℕ → Lacking → Type 0
+abbrev pub Lacked : List ℕ → List ℕ → Places → Standing → List ℕ → Optional ℕ → Type 0
 Lacked work words l m ps r = InEach work words l m (λ w e. Lacks e ps r)
 
 -- the first n words are written as numbers, if there are any

@@ -1,4 +1,5 @@
 -- The line of a judgment whose arguments have words, and what it answers.
+use Rattle.std.specs.Prelude.{Option, Some, None}
 use Rattle.std.specs.Prelude.{◌≡◌, refl, List, [], map, ℕ, ◌≤◌, ◌<◌, length, get_or}
 use Rattle.std.proofs.Common.{sym, subst, ◌∙◌, arith}
 use Rattle.std.proofs.Math.Path.{ap}
@@ -34,8 +35,6 @@ use Rattle.emit_words.specs.Spelling.{pattern_is}
 use Rattle.emit_words.specs.Putting.{PutsOver}
 use Rattle.emit_words.specs.Numbering.{numbered_tally, Numbered}
 use Rattle.emit_words.specs.Readying.{Prepared, Readied}
-use Rattle.emit_words.specs.declared.walk.Named.{Named}
-use Rattle.emit_words.specs.declared.walk.Named.TheVariants.{All, Short}
 
 -- a numbered line, in the lengths lent
 module _ (S : Setting) (ln : Line) (e : Emitter) (v : Lent) where
@@ -54,14 +53,14 @@ abbrev pub stating : (Judgment → Line) → ℕ → World → Search ℕ
 stating F j w = judgment w.setting j >>= λ said. write_step w.setting (F said)
 
 -- the text was short ahead of it
-pub answers_short : (F : Judgment → Line) (b b' : Buffers) (l : Places) (m : Standing) (j : ℕ) (r : Named) → r ≡ Short → Readied b b' l m j r → Answers b b' l m j (stating F j) (Refused (Refusal-as-Short 5))
+pub answers_short : (F : Judgment → Line) (b b' : Buffers) (l : Places) (m : Standing) (j : ℕ) (r : Option Standing) → r ≡ None → Readied b b' l m j r → Answers b b' l m j (stating F j) (Refused (Refusal-as-Short 5))
 answers_short F b b' l m j r q N = record {
   grown = tt;
   comes = λ w e R H. then_refused w.lent (judgment w.setting j) (λ said. write_step w.setting (F said)) e (Refusal-as-Short 5) ((subst (Readied b b' l m j) q N) w e R H);
 }
 
 -- it is put behind the text, and numbered
-module _ (F : Judgment → Line) (b : Buffers) (pack work words proof : List ℕ) (l : Places) (m t : Standing) (j : ℕ) (A : Asked b l m j) (x : Named) (is : x ≡ All t) (N : Readied b (lends pack work words proof) l m j x)
+module _ (F : Judgment → Line) (b : Buffers) (pack work words proof : List ℕ) (l : Places) (m t : Standing) (j : ℕ) (A : Asked b l m j) (x : Option Standing) (is : x ≡ Some t) (N : Readied b (lends pack work words proof) l m j x)
     (proof' : List ℕ) (long : length proof' ≡ length proof) (end : ℕ)
     (O : PutsOver pack work words proof proof' l t j (λ y. y.steps ≡ t.steps) (λ ws. F (record { predicate = (get_or (nodes words t.store) j no_node).head; words = ws })) end)
     (inductions : ℕ) (count : (s : Judgment) → counting (tally_of t) (F s) ≡ numbered_tally t inductions) where

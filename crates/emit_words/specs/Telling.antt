@@ -1,4 +1,5 @@
 -- What the maps and a key say of a pattern's word.
+use Rattle.std.specs.Prelude.{Option as Optional, Some, None}
 use Rattle.std.specs.Prelude.{◌≡◌, false, get_or}
 use Rattle.std.proofs.Math.Path.{refl, sym, ap}
 use Rattle.std.proofs.Common.{◌∙◌}
@@ -19,8 +20,6 @@ use Rattle.store.specs.Words.{key_of}
 use Rattle.store.specs.Stored.{nodes}
 use Rattle.emit_theory.specs.Said.{count-definitions}
 use Rattle.emit_maps.specs.Holds.{recalled, Looks}
-use Rattle.emit_maps.specs.declared.maps.Recall.{Recall}
-use Rattle.emit_maps.specs.declared.maps.Recall.TheVariants.{Number, Nothing}
 use Rattle.emit_lines.specs.Words.{word_in, word_constant, word_defined, word-variable}
 use Rattle.emit_state.specs.Places.{maps_of}
 use Rattle.emit_state.specs.Holding.{lends, World, Ready}
@@ -51,27 +50,27 @@ module _ (pack work words proof : List ℕ) (l : Places) (m : Standing) (w : Wor
         omega (arith, a, b, c, d, R.holding.ends, R.holding.text_few)
 
     -- what the maps say
-    looked_name : (r : Recall) → Looks work (maps_of l) 3 p r → recalled r ≡ value_of p e.undone.names
+    looked_name : (r : Optional ℕ) → Looks work (maps_of l) 3 p r → recalled r ≡ value_of p e.undone.names
     looked_name r L = L.value e.undone.names R.holding.maps.names
 
     -- the definitions
-    looked_def : (r : Recall) → Looks work (maps_of l) 2 p r → recalled r ≡ value_of p e.undone.defs
+    looked_def : (r : Optional ℕ) → Looks work (maps_of l) 2 p r → recalled r ≡ value_of p e.undone.defs
     looked_def r L = L.value e.undone.defs R.holding.maps.defs
 
     -- a number that was found is small
-    pub name-fits : (r : Recall) (k : ℕ) → Looks work (maps_of l) 3 p r → r ≡ Number k → k < 16777216
+    pub name-fits : (r : Optional ℕ) (k : ℕ) → Looks work (maps_of l) 3 p r → r ≡ Some k → k < 16777216
     name-fits r k L q = name_few k (sym (looked_name r L) ∙ ap recalled q)
 
     -- a definition's too
-    pub def_fits : (r : Recall) (n : ℕ) → Looks work (maps_of l) 2 p r → r ≡ Number n → n < 16777216
+    pub def_fits : (r : Optional ℕ) (n : ℕ) → Looks work (maps_of l) 2 p r → r ≡ Some n → n < 16777216
     def_fits r n L q = def_few n (sym (looked_def r L) ∙ ap recalled q)
 
     -- it has no name
-    pub no_name : (r : Recall) → Looks work (maps_of l) 3 p r → r ≡ Nothing → value_of p e.undone.names ≡ none
+    pub no_name : (r : Optional ℕ) → Looks work (maps_of l) 3 p r → r ≡ None → value_of p e.undone.names ≡ none
     no_name r L q = sym (looked_name r L) ∙ ap recalled q
 
     -- it has one
-    pub spelled-name : (r : Recall) (k : ℕ) → Looks work (maps_of l) 3 p r → r ≡ Number k → some (word_in (2147483648 + 1 + k)) ≡ word_of e p
+    pub spelled-name : (r : Optional ℕ) (k : ℕ) → Looks work (maps_of l) 3 p r → r ≡ Some k → some (word_in (2147483648 + 1 + k)) ≡ word_of e p
     unfolding word_of
     spelled-name r k L q =
         let z : value_of p e.undone.names ≡ some k = sym (looked_name r L) ∙ ap recalled q in
@@ -124,11 +123,11 @@ module _ (pack work words proof : List ℕ) (l : Places) (m : Standing) (w : Wor
               by (x ∷ xs) a = rw (u, applied, a, z, word_of) refl
 
           -- it is defined
-          pub spelled_defined : (r : Recall) (n : ℕ) → Looks work (maps_of l) 2 p r → r ≡ Number n → some (word_in (1073741824 + n)) ≡ word_of e p
+          pub spelled_defined : (r : Optional ℕ) (n : ℕ) → Looks work (maps_of l) 2 p r → r ≡ Some n → some (word_in (1073741824 + n)) ≡ word_of e p
           spelled_defined r n L q =
               let z : value_of p e.undone.defs ≡ some n = sym (looked_def r L) ∙ ap recalled q in
               ap some (word_defined n (omega (arith, def_few n z))) ∙ sym (compound (some n) z)
 
           -- it is not
-          pub spelled-nothing : (r : Recall) → Looks work (maps_of l) 2 p r → r ≡ Nothing → none ≡ word_of e p
+          pub spelled-nothing : (r : Optional ℕ) → Looks work (maps_of l) 2 p r → r ≡ None → none ≡ word_of e p
           spelled-nothing r L q = sym (compound none (sym (looked_def r L) ∙ ap recalled q))

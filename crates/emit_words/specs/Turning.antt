@@ -1,4 +1,5 @@
 -- What a turn of the walk does.
+use Rattle.std.specs.Prelude.{Option, Some, None}
 use Rattle.std.specs.Prelude.{◌≡◌, refl, ℕ, suc, ◌+◌, ◌*◌, ◌-◌, ◌≤◌, ◌<◌, length, get_or, drop, set}
 use Rattle.std.proofs.Common.{sym, ◌∙◌, mul-le-mul_right, arith}
 use Rattle.std.proofs.Math.Path.{ap, subst}
@@ -28,10 +29,7 @@ use Rattle.emit_words.specs.Spelling.{InEach, Lacks, Lacked, pattern_is}
 use Rattle.emit_words.specs.Putting.{Whole}
 use Rattle.emit_words.specs.Defining.{Defining, Definable, Defines}
 use Rattle.emit_words.specs.Walking.{waiting, Walks, Walking, Finishing, Turned, judgment_low, stack_low, top_low}
-use Rattle.emit_words.specs.declared.gather.Lacking.TheVariants.{Argument, Nothing}
-use Rattle.emit_words.specs.declared.define.Defined.{Defined}
-use Rattle.emit_words.specs.declared.define.Defined.TheVariants.{Line, Short as Defined-as-Short}
-use Rattle.emit_words.specs.declared.walk.Turn.TheVariants.{Next, Done, Short}
+use Rattle.emit_words.specs.declared.walk.Turn.TheVariants.{Next, Done}
 
 -- one less of the first, whatever the second is below k
 falls : (a b k x y : ℕ) → a < b → x < k → a * k + x < b * k + y
@@ -52,10 +50,10 @@ module _ (pack work words proof : List ℕ) (l : Places) (m : Standing) (j : ℕ
     args_of w e W = ap (drop 1) (k ∙ ap key_of (pattern_is pack work words proof l m w e W.ready p)) ∙ ap (λ (q : ℕ). (pattern_of e q).args) t
 
     -- all have words
-    pub top-whole : Lacked work words l m (drop 1 key) Nothing → InEach work words l m (λ w e. Whole e p)
+    pub top-whole : Lacked work words l m (drop 1 key) None → InEach work words l m (λ w e. Whole e p)
     top-whole A pk pf w e R = subst (λ (xs : List ℕ). Worded e xs (length xs)) (ap (drop 1) (k ∙ ap key_of (pattern_is pk work words pf l m w e R p))) (A pk pf w e R)
 
-    module _ (a : ℕ) (A : Lacked work words l m (drop 1 key) (Argument a)) (work' : List ℕ) (is : work' ≡ set work (s.at + s.len) a) (u : Stack) (at : u.at ≡ s.at)
+    module _ (a : ℕ) (A : Lacked work words l m (drop 1 key) (Some a)) (work' : List ℕ) (is : work' ≡ set work (s.at + s.len) a) (u : Stack) (at : u.at ≡ s.at)
         (on : stacked u.at u.len work' ≡ a ∷ stacked s.at s.len work) where
       -- the buffers behind it
       abbrev b' : Buffers
@@ -65,7 +63,7 @@ module _ (pack work words proof : List ℕ) (l : Places) (m : Standing) (j : ℕ
       of_first : (w : World) (e : Emitter) → Walks b l m w e j s → (Q : ℕ → Type 0)
           → ((i : ℕ) → i < length (pattern_of e top).args → Worded e (pattern_of e top).args i → word_of e (get_or (pattern_of e top).args i 0) ≡ none → Q (get_or (pattern_of e top).args i 0)) → Q a
       of_first w e W Q h =
-          let T = subst (λ (xs : List ℕ). Lacks e xs (Argument a)) (args_of w e W) (A pack proof w e W.ready) in
+          let T = subst (λ (xs : List ℕ). Lacks e xs (Some a)) (args_of w e W) (A pack proof w e W.ready) in
           subst Q T.2 (h T.0 T.1 T.3 (ap (word_of e) T.2 ∙ T.4))
 
       -- the same state is held
@@ -81,7 +79,7 @@ module _ (pack work words proof : List ℕ) (l : Places) (m : Standing) (j : ℕ
       lower = let w = K.world in let e = K.state in let W = K.walks in of_first w e W (λ x. x < top) (λ i h _ _. below_at top (pattern_of e top).args i (top_below w.setting e W.ready.sound j W.has (waiting b s) W.waits) h)
 
       -- so a turn was taken
-      pub turn-pushed : Turned b b' l m j s (Next m u)
+      pub turn-pushed : Turned b b' l m j s (Some (Next m u))
       turn-pushed = (
         record { at = at; store = refl; less = let z : top_of j (waiting b' u) ≡ a = ap (top_of j) on in omega (arith, lower, z) },
         λ w e W. record {
@@ -100,7 +98,7 @@ module _ (pack work words proof : List ℕ) (l : Places) (m : Standing) (j : ℕ
   -- ---- the top is finished
   module _ (p : ℕ) (F : Finishing b l m j p s) where
     -- nothing waits: it is the judgment
-    pub turn-done : s.len ≡ 0 → Turned b b l m j s Done
+    pub turn-done : s.len ≡ 0 → Turned b b l m j s (Some Done)
     unfolding stacked
     turn-done z w e W =
         let y : waiting b s ≡ [] = ap (λ (n : ℕ). stacked s.at n work) z in
@@ -127,15 +125,15 @@ module _ (pack work words proof : List ℕ) (l : Places) (m : Standing) (j : ℕ
       pub turn_definable : Definable b l m p
       turn_definable = let K = F.walking in record { world = K.world; state = K.state; defining = (defining K.world K.state K.walks).0 }
 
-      module _ (work' proof' : List ℕ) (r : Defined) (D : Defines b (lends pack work' words proof') l m p r) where
+      module _ (work' proof' : List ℕ) (r : Option Standing) (D : Defines b (lends pack work' words proof') l m p r) where
         -- the text is short
-        pub turn_short : r ≡ Defined-as-Short → Turned b (lends pack work' words proof') l m j s Short
+        pub turn_short : r ≡ None → Turned b (lends pack work' words proof') l m j s None
         turn_short q w e W =
             let E = subst (Defines b (lends pack work' words proof') l m p) q D in
             ap (λ (ps : List ℕ). ran w.lent (pending w.setting j ps) e) on_top ∙ E w e (defining w e W).0 j (stacked s.at (s.len - 1) work)
 
         -- it is defined, and taken off
-        pub turn_defined : (t : Standing) → r ≡ Line t → Turned b (lends pack work' words proof') l m j s (Next t (record { at = s.at; len = s.len - 1 }))
+        pub turn_defined : (t : Standing) → r ≡ Some t → Turned b (lends pack work' words proof') l m j s (Some (Next t (record { at = s.at; len = s.len - 1 })))
         turn_defined t q =
             let E = subst (Defines b (lends pack work' words proof') l m p) q D in
             let B = E.0 in

@@ -1,4 +1,5 @@
 -- The walk that gives a judgment's arguments their words: its stack in work, its turns, and where it ends.
+use Rattle.std.specs.Prelude.{Option, Some, None}
 use Rattle.std.specs.Prelude.{◌≡◌, List, [], ℕ, ◌+◌, ◌*◌, ◌-◌, ◌≤◌, ◌<◌, length}
 use Rattle.std.proofs.Common.{arith}
 use Rattle.definition.specs.Pack.{prop}
@@ -18,7 +19,7 @@ use Rattle.emit_words.specs.Pending.{pending, top_of, Waits, waits_few, top-stor
 use Rattle.emit_words.specs.Spelling.{Knows, InEach, stored_is}
 use Rattle.emit_words.specs.Putting.{Placed, Whole}
 use Rattle.emit_words.specs.declared.walk.Turn.{Turn}
-use Rattle.emit_words.specs.declared.walk.Turn.TheVariants.{Next, Done, Short}
+use Rattle.emit_words.specs.declared.walk.Turn.TheVariants.{Next, Done}
 
 -- what waits
 abbrev pub waiting : Buffers → Stack → List ℕ
@@ -60,10 +61,10 @@ pub record Falls (b b' : Buffers) (l : Places) (m t : Standing) (j : ℕ) (s u :
   pub less : left b' l t j u < left b l m j s
 
 -- what a turn answers
-abbrev pub Turned : Buffers → Buffers → Places → Standing → ℕ → Stack → Turn → Type 0
-Turned b b' l m j s (Next t u) = Falls b b' l m t j s u × ((w : World) (e : Emitter) → Walks b l m w e j s → Stepped b b' l t w e j s u)
-Turned b b' l m j s Done = (w : World) (e : Emitter) → Walks b l m w e j s → Ready b' l m w e × Whole e j × (waiting b s ≡ [])
-Turned b b' l m j s Short = (w : World) (e : Emitter) → Walks b l m w e j s → ran w.lent (pending w.setting j (waiting b s)) e ≡ refuse (Refusal-as-Short 5)
+abbrev pub Turned : Buffers → Buffers → Places → Standing → ℕ → Stack → Option Turn → Type 0
+Turned b b' l m j s (Some (Next t u)) = Falls b b' l m t j s u × ((w : World) (e : Emitter) → Walks b l m w e j s → Stepped b b' l t w e j s u)
+Turned b b' l m j s (Some Done) = (w : World) (e : Emitter) → Walks b l m w e j s → Ready b' l m w e × Whole e j × (waiting b s ≡ [])
+Turned b b' l m j s None = (w : World) (e : Emitter) → Walks b l m w e j s → ran w.lent (pending w.setting j (waiting b s)) e ≡ refuse (Refusal-as-Short 5)
 
 -- ---- the room that there is
 module _ (pack work words proof : List ℕ) (l : Places) (m : Standing) (j : ℕ) (s : Stack) where

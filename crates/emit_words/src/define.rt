@@ -15,13 +15,6 @@ use emit_maps::trail::enter;
 use emit_state::places::Places;
 use emit_state::standing::Standing;
 
-// A definition was written; or the text is short.
-#[derive(Clone, Copy)]
-pub enum Defined {
-    Line(Standing),
-    Short,
-}
-
 // The line of the next definition: pattern `p` over its arguments' words.
 fn put_definition(
     pack: &[u8],
@@ -37,7 +30,6 @@ fn put_definition(
 {
     let mut numbers = [0; Limit::ARITY];
     let said = collect(work, words, l, m, p, &mut numbers);
-    let n = said.many;
     put_def_line(
         pack,
         work,
@@ -46,11 +38,11 @@ fn put_definition(
         m.text,
         m.definitions,
         said.head,
-        &numbers[0..n],
+        &numbers[0..said.many],
     )
 }
 
-// Pattern `p`, all of whose arguments have words, is defined.
+// Pattern `p`, all of whose arguments have words, is defined; none where the text is short.
 pub fn define(
     pack: &[u8],
     work: &mut [u32],
@@ -59,27 +51,20 @@ pub fn define(
     l: Places,
     m: Standing,
     p: u32,
-) -> Defined
+) -> Option<Standing>
     requires { Definable (lends pack.now work.old words.now proof.old) l m p }
     ensures { Defines (lends pack.now work.old words.now proof.old) (lends pack.now work.new words.now proof.new) l m p result }
 {
     let end = put_definition(pack, work, words, proof, l, m, p);
     if proof.len() < end {
-        return Defined::Short;
+        return None;
     }
     let n = m.definitions;
-    let store = m.store;
-    let failed = m.failed;
     let trail = enter(work, l.maps(), Maps::DEFS, p, n, m.trail);
-    Defined::Line(Standing {
-        store: store,
+    Some(Standing {
         text: end,
-        steps: m.steps,
         definitions: n + 1,
-        variables: m.variables,
-        inductions: m.inductions,
-        trail: trail,
-        failed: failed,
-        hyps: m.hyps,
+        trail,
+        ..m
     })
 }

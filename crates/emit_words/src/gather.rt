@@ -4,16 +4,9 @@ ghost use Rattle.definition.specs.Pack.{most_arity};
 ghost use Rattle.emit_words.specs.Putting.{Collectable, Collected};
 ghost use Rattle.emit_words.specs.Spelling.{Knows, KnowsAll, Numbers, Lacked, Gathers};
 
-use crate::spell::{Spelt, key_of, word_of};
+use crate::spell::{key_of, word_of};
 use emit_state::places::Places;
 use emit_state::standing::Standing;
-
-// The first argument without a word, or that there is none.
-#[derive(Clone, Copy)]
-pub enum Lacking {
-    Argument(u32),
-    Nothing,
-}
 
 // The head of a pattern, and how many arguments it has.
 #[derive(Clone, Copy)]
@@ -27,29 +20,26 @@ fn number_of(work: &[u32], words: &[u32], l: Places, m: Standing, p: u32) -> u32
     requires { Knows work.now words.now l m p }
     ensures { Numbers work.now words.now l m p result }
 {
-    match word_of(work, words, l, m, p) {
-        Spelt::Number(x) => x,
-        Spelt::Nothing => 0,
-    }
+    word_of(work, words, l, m, p).unwrap_or(0)
 }
 
-// The first argument of a key that has no word.
-pub fn first_lacking(work: &[u32], words: &[u32], l: Places, m: Standing, key: &[u32]) -> Lacking
+// The first argument of a key that has no word; none if all have one.
+pub fn first_lacking(
+    work: &[u32],
+    words: &[u32],
+    l: Places,
+    m: Standing,
+    key: &[u32],
+) -> Option<u32>
     requires { KnowsAll work.now words.now l m key.now }
     ensures { Lacked work.now words.now l m (drop 1 key.now) result }
 {
-    let mut i: usize = 1;
-    while i < key.len() {
-        match word_of(work, words, l, m, key[i]) {
-            Spelt::Number(_) => {
-                i += 1;
-            }
-            Spelt::Nothing => {
-                return Lacking::Argument(key[i]);
-            }
+    for i in 1..key.len() {
+        if word_of(work, words, l, m, key[i]).is_none() {
+            return Some(key[i]);
         }
     }
-    Lacking::Nothing
+    None
 }
 
 // The words of a key's arguments, all of which have one, as their numbers.
@@ -57,11 +47,9 @@ fn gather(work: &[u32], words: &[u32], l: Places, m: Standing, key: &[u32], numb
     requires { KnowsAll work.now words.now l m key.now × (length key.now ≤ length numbers.old + 1) }
     ensures { Gathers work.now words.now l m (drop 1 key.now) numbers.new }
 {
-    let mut i: usize = 1;
-    while i < key.len() {
+    for i in 1..key.len() {
         let at = i - 1;
         numbers[at] = number_of(work, words, l, m, key[i]);
-        i += 1;
     }
 }
 

@@ -7,16 +7,9 @@ ghost use Rattle.emit_words.specs.Spelling.{Knows, Spelled, SpelledUnnamed};
 
 use base::id::Pattern;
 use emit_lines::word::Word;
-use emit_maps::maps::{Maps, Recall, look};
+use emit_maps::maps::{Maps, look};
 use emit_state::places::Places;
 use emit_state::standing::Standing;
-
-// A word as its number, or that there is none.
-#[derive(Clone, Copy)]
-pub enum Spelt {
-    Number(u32),
-    Nothing,
-}
 
 // The head of pattern `p` and its arguments.
 pub fn key_of<'a>(work: &[u32], words: &'a [u32], l: Places, m: Standing, p: u32) -> &'a [u32]
@@ -28,31 +21,29 @@ pub fn key_of<'a>(work: &[u32], words: &'a [u32], l: Places, m: Standing, p: u32
     m.store.node(&work[a..e], words, Pattern(p))
 }
 
-// The word of a pattern that is no case variable: L's, a constant's, or its definition's.
-fn word_unnamed(work: &[u32], words: &[u32], l: Places, m: Standing, p: u32) -> Spelt
+// The word of a pattern that is no case variable: L's, a constant's, or its definition's; none if it is not defined.
+fn word_unnamed(work: &[u32], words: &[u32], l: Places, m: Standing, p: u32) -> Option<u32>
     requires { Knows work.now words.now l m p }
     ensures { SpelledUnnamed work.now words.now l m p result }
 {
     let key = key_of(work, words, l, m, p);
     if key[0] == Pattern::VAR {
-        return Spelt::Number(Word::VARIABLE);
+        return Some(Word::VARIABLE);
     }
     if key.len() == 1 {
-        return Spelt::Number(key[0]);
+        return Some(key[0]);
     }
-    match look(work, l.maps(), Maps::DEFS, p) {
-        Recall::Number(n) => Spelt::Number(Word::DEFINED + n),
-        Recall::Nothing => Spelt::Nothing,
-    }
+    let n = look(work, l.maps(), Maps::DEFS, p)?;
+    Some(Word::DEFINED + n)
 }
 
-// The word of pattern `p`: a case variable's, asked for first, or what it has otherwise.
-pub fn word_of(work: &[u32], words: &[u32], l: Places, m: Standing, p: u32) -> Spelt
+// The word of pattern `p`: a case variable's, asked for first, or what it has otherwise; none if it has no word.
+pub fn word_of(work: &[u32], words: &[u32], l: Places, m: Standing, p: u32) -> Option<u32>
     requires { Knows work.now words.now l m p }
     ensures { Spelled work.now words.now l m p result }
 {
     match look(work, l.maps(), Maps::NAMES, p) {
-        Recall::Number(k) => Spelt::Number(Word::VARIABLE + 1 + k),
-        Recall::Nothing => word_unnamed(work, words, l, m, p),
+        Some(k) => Some(Word::VARIABLE + 1 + k),
+        None => word_unnamed(work, words, l, m, p),
     }
 }

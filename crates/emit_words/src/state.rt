@@ -11,7 +11,7 @@ ghost use Rattle.emit_words.specs.Numbering.{Numbered};
 ghost use Rattle.emit_words.specs.Stating.{stating};
 
 use crate::gather::collect;
-use crate::walk::{Named, name_words};
+use crate::walk::name_words;
 use base::limit::Limit;
 use definition::{Buffer, Refusal};
 use emit_lines::line::{put_hyp_line, put_induct_line, put_step_line};
@@ -27,19 +27,12 @@ fn numbered(m: Standing, end: usize, room: usize, inductions: u32) -> Proved
     if room < end {
         return Proved::Refused(Refusal::Short(Buffer::TEXT));
     }
-    let store = m.store;
-    let failed = m.failed;
     Proved::Line(
         Standing {
-            store: store,
             text: end,
             steps: m.steps + 1,
-            definitions: m.definitions,
-            variables: m.variables,
-            inductions: inductions,
-            trail: m.trail,
-            failed: failed,
-            hyps: m.hyps,
+            inductions,
+            ..m
         },
         m.steps,
     )
@@ -62,7 +55,6 @@ fn put_step(
 {
     let mut numbers = [0; Limit::ARITY];
     let said = collect(work, words, l, m, j, &mut numbers);
-    let n = said.many;
     put_step_line(
         pack,
         work,
@@ -73,7 +65,7 @@ fn put_step(
         rule,
         refs,
         said.head,
-        &numbers[0..n],
+        &numbers[0..said.many],
     )
 }
 
@@ -92,7 +84,6 @@ fn put_hyp(
 {
     let mut numbers = [0; Limit::ARITY];
     let said = collect(work, words, l, m, j, &mut numbers);
-    let n = said.many;
     put_hyp_line(
         pack,
         work,
@@ -101,7 +92,7 @@ fn put_hyp(
         m.text,
         m.steps,
         said.head,
-        &numbers[0..n],
+        &numbers[0..said.many],
     )
 }
 
@@ -121,7 +112,6 @@ fn put_induct(
 {
     let mut numbers = [0; Limit::ARITY];
     let said = collect(work, words, l, m, j, &mut numbers);
-    let n = said.many;
     put_induct_line(
         pack,
         work,
@@ -130,7 +120,7 @@ fn put_induct(
         m.text,
         m.steps,
         said.head,
-        &numbers[0..n],
+        &numbers[0..said.many],
         cases,
     )
 }
@@ -151,13 +141,11 @@ fn name_and_put(
     ensures answer { Answers (lends pack.now work.old words.now proof.old) (lends pack.now work.new words.now proof.new) l m j (λ w. step w.setting rule refs.now j) result }
     ensures line { Wrote result }
 {
-    match name_words(pack, work, words, proof, l, m, j) {
-        Named::All(t) => {
-            let end = put_step(pack, work, words, proof, l, t, j, rule, refs);
-            numbered(t, end, proof.len(), t.inductions)
-        }
-        Named::Short => Proved::Refused(Refusal::Short(Buffer::TEXT)),
-    }
+    let Some(t) = name_words(pack, work, words, proof, l, m, j) else {
+        return Proved::Refused(Refusal::Short(Buffer::TEXT));
+    };
+    let end = put_step(pack, work, words, proof, l, t, j, rule, refs);
+    numbered(t, end, proof.len(), t.inductions)
 }
 
 // The same, kept out of its callers' frames: a function that calls itself is not put into them. It never does: each pattern has room.
@@ -215,13 +203,11 @@ pub fn write_hyp(
     ensures answer { Answers (lends pack.now work.old words.now proof.old) (lends pack.now work.new words.now proof.new) l m j (stating (λ said. hyp_line said) j) result }
     ensures line { Wrote result }
 {
-    match name_words(pack, work, words, proof, l, m, j) {
-        Named::All(t) => {
-            let end = put_hyp(pack, work, words, proof, l, t, j);
-            numbered(t, end, proof.len(), t.inductions)
-        }
-        Named::Short => Proved::Refused(Refusal::Short(Buffer::TEXT)),
-    }
+    let Some(t) = name_words(pack, work, words, proof, l, m, j) else {
+        return Proved::Refused(Refusal::Short(Buffer::TEXT));
+    };
+    let end = put_hyp(pack, work, words, proof, l, t, j);
+    numbered(t, end, proof.len(), t.inductions)
 }
 
 // Judgment `j` by induction on L, with these cases.
@@ -239,11 +225,9 @@ pub fn write_induct(
     ensures answer { Answers (lends pack.now work.old words.now proof.old) (lends pack.now work.new words.now proof.new) l m j (stating (λ said. induct_line said (cases_in cases.now)) j) result }
     ensures line { Wrote result }
 {
-    match name_words(pack, work, words, proof, l, m, j) {
-        Named::All(t) => {
-            let end = put_induct(pack, work, words, proof, l, t, j, cases);
-            numbered(t, end, proof.len(), t.inductions + 1)
-        }
-        Named::Short => Proved::Refused(Refusal::Short(Buffer::TEXT)),
-    }
+    let Some(t) = name_words(pack, work, words, proof, l, m, j) else {
+        return Proved::Refused(Refusal::Short(Buffer::TEXT));
+    };
+    let end = put_induct(pack, work, words, proof, l, t, j, cases);
+    numbered(t, end, proof.len(), t.inductions + 1)
 }

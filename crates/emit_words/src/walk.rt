@@ -6,26 +6,18 @@ ghost use Rattle.emit_words.specs.Pending.{top_of};
 ghost use Rattle.emit_words.specs.Walking.{Walking, Finishing, Turned};
 ghost use Rattle.emit_words.specs.Readying.{Readied};
 
-use crate::define::{Defined, define};
-use crate::gather::{Lacking, first_lacking};
+use crate::define::define;
+use crate::gather::first_lacking;
 use crate::spell::key_of;
-use base::stack::{Popped, Stack};
+use base::stack::Stack;
 use emit_state::places::Places;
 use emit_state::standing::Standing;
 
-// A turn was taken, and these patterns wait; none waits, and all arguments have words; or the text is short.
+// A turn was taken, and these patterns wait; or none waits, and all arguments have words.
 #[derive(Clone, Copy)]
 pub enum Turn {
     Next(Standing, Stack),
     Done,
-    Short,
-}
-
-// All arguments have words; or the text is short.
-#[derive(Clone, Copy)]
-pub enum Named {
-    All(Standing),
-    Short,
 }
 
 // What is to be looked at next: the pattern on top, or `j` itself.
@@ -34,12 +26,12 @@ fn top_of(work: &[u32], j: u32, s: Stack) -> u32
     ensures { result ≡ top_of j (stacked s.at s.len work.now) }
 {
     match s.pop(work) {
-        Popped::Word(p, _) => p,
-        Popped::Empty => j,
+        Some((p, _)) => p,
+        None => j,
     }
 }
 
-// The top `p`, all of whose arguments have words, is defined and taken off; none is left if it is the judgment.
+// The top `p`, all of whose arguments have words, is defined and taken off; none is left if it is the judgment. Or the text is short.
 fn finish(
     pack: &[u8],
     work: &mut [u32],
@@ -50,26 +42,22 @@ fn finish(
     j: u32,
     p: u32,
     s: Stack,
-) -> Turn
+) -> Option<Turn>
     requires { Finishing (lends pack.now work.old words.now proof.old) l m j p s }
     ensures { Turned (lends pack.now work.old words.now proof.old) (lends pack.now work.new words.now proof.new) l m j s result }
 {
     if s.len == 0 {
-        return Turn::Done;
+        return Some(Turn::Done);
     }
-    match define(pack, work, words, proof, l, m, p) {
-        Defined::Line(t) => Turn::Next(
-            t,
-            Stack {
-                at: s.at,
-                len: s.len - 1,
-            },
-        ),
-        Defined::Short => Turn::Short,
-    }
+    let t = define(pack, work, words, proof, l, m, p)?;
+    let left = Stack {
+        len: s.len - 1,
+        ..s
+    };
+    Some(Turn::Next(t, left))
 }
 
-// The first argument of the top that has no word is put on it; if there is none, the top is finished.
+// The first argument of the top that has no word is put on it; if there is none, the top is finished. Or the text is short.
 fn take_turn(
     pack: &[u8],
     work: &mut [u32],
@@ -79,19 +67,19 @@ fn take_turn(
     m: Standing,
     j: u32,
     s: Stack,
-) -> Turn
+) -> Option<Turn>
     requires { Walking (lends pack.now work.old words.now proof.old) l m j s }
     ensures { Turned (lends pack.now work.old words.now proof.old) (lends pack.now work.new words.now proof.new) l m j s result }
 {
     let p = top_of(work, j, s);
     let key = key_of(work, words, l, m, p);
     match first_lacking(work, words, l, m, key) {
-        Lacking::Argument(a) => Turn::Next(m, s.push(work, a)),
-        Lacking::Nothing => finish(pack, work, words, proof, l, m, j, p, s),
+        Some(a) => Some(Turn::Next(m, s.push(work, a))),
+        None => finish(pack, work, words, proof, l, m, j, p, s),
     }
 }
 
-// Each argument of judgment `j` gets its word.
+// Each argument of judgment `j` gets its word; none where the text is short.
 pub fn name_words(
     pack: &[u8],
     work: &mut [u32],
@@ -100,7 +88,7 @@ pub fn name_words(
     l: Places,
     m: Standing,
     j: u32,
-) -> Named
+) -> Option<Standing>
     requires { Asked (lends pack.now work.old words.now proof.old) l m j }
     ensures { Readied (lends pack.now work.old words.now proof.old) (lends pack.now work.new words.now proof.new) l m j result }
 {
@@ -110,16 +98,13 @@ pub fn name_words(
         len: 0,
     };
     loop {
-        match take_turn(pack, work, words, proof, l, t, j, s) {
+        match take_turn(pack, work, words, proof, l, t, j, s)? {
             Turn::Next(next, left) => {
                 t = next;
                 s = left;
             }
             Turn::Done => {
-                return Named::All(t);
-            }
-            Turn::Short => {
-                return Named::Short;
+                return Some(t);
             }
         }
     }

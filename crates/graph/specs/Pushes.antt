@@ -1,4 +1,5 @@
 -- One node more: the words behind the others stand for it.
+use Rattle.std.specs.Prelude.{Option, Some, None}
 use Rattle.std.specs.Prelude.{◌≡◌, List, [], ◌∷◌, ◌++◌, length, get_or, set}
 use Rattle.std.proofs.Math.Path.{refl, sym, ap, ap₂, subst}
 use Rattle.std.proofs.Common.{◌∙◌, length-set, get_or-set_same, get_or-set_other}
@@ -14,8 +15,6 @@ use Rattle.base.specs.Outside.{Outside}
 use Rattle.base.specs.Lent.{back, back_outside}
 use Rattle.theory.specs.Unification.Like.{Like, like_same, like_more, same-vertex}
 use Rattle.graph.specs.declared.graph.Graph.{Graph as Counts}
-use Rattle.graph.specs.declared.graph.Pushed.{Pushed}
-use Rattle.graph.specs.declared.graph.Pushed.TheVariants.{At, Short}
 use Rattle.graph.specs.Cells.{start_in, link_word, rest_at, sort_word, flex_word, rigid_word, mark_in, vertex_in, graph_in, length-graph_in, graph_kept, rows_end, Laid, Shows, cells_used, Unchanged, unchanged_then, unchanged_set}
 
 -- ---- no node
@@ -148,13 +147,21 @@ module _ (words table : List ℕ) (s : Counts) (sort flex rigid end : ℕ) (more
             (unchanged_set f t4 (b + 2) rigid (omega (arith, more)));
       }
 
+-- the next node, and the graph with it, whose cells end at `end`
+abbrev pub Next : Counts → ℕ → Node × Counts → Type 0
+Next s end (n, s') = (n.0 ≡ s.nodes) × (s' ≡ record { nodes = s.nodes + 1; used = end })
+
 -- what a node more answers: its number and the graph with it, or that the cells have no room for it; behind the rows nothing changes
-abbrev pub Pushes : List ℕ → List ℕ → List ℕ → List ℕ → Counts → Vertex → Pushed → Type 0
-Pushes words words' table table' s v (At n s') = ((g : Graph) → Shows words table s g → (n.0 ≡ length g) × Shows words' table' s' (g ++ (v ∷ []))) × Unchanged (rows_end words) table table'
-Pushes words words' table table' s v Short = (g : Graph) → Shows words table s g → length words < cells g + suc (length v.args)
+abbrev pub Pushes : List ℕ → List ℕ → List ℕ → List ℕ → Counts → Vertex → Option (Node × Counts) → Type 0
+Pushes words words' table table' s v (Some (n, s')) = ((g : Graph) → Shows words table s g → (n.0 ≡ length g) × Shows words' table' s' (g ++ (v ∷ []))) × Unchanged (rows_end words) table table'
+Pushes words words' table table' s v None = (g : Graph) → Shows words table s g → length words < cells g + suc (length v.args)
+
+-- it is the answer if it is with its number alone
+pub pushed_next : (words words' table table' : List ℕ) (s : Counts) (v : Vertex) (end : ℕ) (r : Node × Counts) → Next s end r → ((n : Node) → n.0 ≡ s.nodes → Pushes words words' table table' s v (Some (n, (record { nodes = s.nodes + 1; used = end })))) → Pushes words words' table table' s v (Some r)
+pushed_next words words' table table' s v end (n, s') N P = subst (λ (k : Counts). Pushes words words' table table' s v (Some (n, k))) (sym N.1) (P n N.0)
 
 -- no room
-pub no_room : (words words' table table' : List ℕ) (s : Counts) (v : Vertex) → length words < s.used + suc (length v.args) → Pushes words words' table table' s v Short
+pub no_room : (words words' table table' : List ℕ) (s : Counts) (v : Vertex) → length words < s.used + suc (length v.args) → Pushes words words' table table' s v None
 no_room words words' table table' s v h g S = omega (arith, h, cells_shown words table s g S)
 
 -- the node stands there
@@ -167,7 +174,7 @@ module _ (words table words' table' : List ℕ) (s : Counts) (L : Laid words tab
   rests_there i l = ap (λ (k : ℕ). get_or table' (2 * k + 2 + i) 0) (sym long) ∙ R.rests i l ∙ ap (λ (k : ℕ). get_or table (2 * k + 2 + i) 0) long
 
   pub node-more : (n : Node) → n.0 ≡ s.nodes → (head : ℕ) (args : List ℕ) → get_or words' s.used 0 ≡ head → part (s.used + 1) (end - (s.used + 1)) words' ≡ args
-      → Pushes words words' table table' s (record { head = head; args = args; link = none; sort = sort; flex = mark_in flex; rigid = mark_in rigid }) (At n (record { nodes = s.nodes + 1; used = end }))
+      → Pushes words words' table table' s (record { head = head; args = args; link = none; sort = sort; flex = mark_in flex; rigid = mark_in rigid }) (Some (n, (record { nodes = s.nodes + 1; used = end })))
   unfolding vertex_in
   node-more n n-is head args h a =
       let v : Vertex = record { head = head; args = args; link = none; sort = sort; flex = mark_in flex; rigid = mark_in rigid } in
@@ -178,7 +185,7 @@ module _ (words table words' table' : List ℕ) (s : Counts) (L : Laid words tab
 
 -- a variable takes one cell
 pub var_pushed : (words table table' : List ℕ) (s : Counts) (n : Node) → n.0 ≡ s.nodes → Laid words table s → s.used < length words → (sort flex rigid : ℕ) → Rows (set words s.used variable_head) table table' s sort flex rigid (s.used + 1)
-    → Pushes words (set words s.used variable_head) table table' s (variable_vertex sort (mark_in flex) (mark_in rigid)) (At n (record { nodes = s.nodes + 1; used = s.used + 1 }))
+    → Pushes words (set words s.used variable_head) table table' s (variable_vertex sort (mark_in flex) (mark_in rigid)) (Some (n, (record { nodes = s.nodes + 1; used = s.used + 1 })))
 unfolding part
 var_pushed words table table' s n n-is L h sort flex rigid R =
     let z : s.used + 1 - (s.used + 1) ≡ 0 = omega arith in
@@ -190,7 +197,7 @@ abbrev pub arguments_to : List ℕ → Counts → ℕ → List ℕ
 arguments_to words s end = part (s.used + 1) (end - (s.used + 1)) words
 
 pub laid_pushed : (words table table' : List ℕ) (s : Counts) (n : Node) → n.0 ≡ s.nodes → (head end : ℕ) → Laid words table s → s.used + 1 ≤ end → end ≤ length words → Rows (set words s.used head) table table' s nothing 0 0 end
-    → Pushes words (set words s.used head) table table' s (applied head (arguments_to words s end)) (At n (record { nodes = s.nodes + 1; used = end }))
+    → Pushes words (set words s.used head) table table' s (applied head (arguments_to words s end)) (Some (n, (record { nodes = s.nodes + 1; used = end })))
 laid_pushed words table table' s n n-is head end L more h R =
     node-more words table (set words s.used head) table' s L (length-set words s.used head) (λ i l. get_or-set_other words s.used i head 0 (λ e. omega arith)) nothing 0 0 end R more h n n-is head (arguments_to words s end)
     (get_or-set_same words s.used head 0 (omega arith)) (part-set-before (s.used + 1) (end - (s.used + 1)) words s.used head (omega arith))
@@ -222,12 +229,12 @@ module _ (words table copied : List ℕ) (s : Counts) (end : ℕ) (L : Laid word
       let e = graph_kept words table filled table s L filled_long (λ i h. refl) (λ i h. refl) (λ i h. free.ahead i (omega arith)) s.nodes (omega arith) in
       record { laid = filled_laid; like = subst (λ (h : Graph). Like h g) (sym e) S.like }
 
-  filled_more : (words' table' : List ℕ) (v : Vertex) (r : Pushed) → Pushes filled words' table table' s v r → Pushes words words' table table' s v r
-  filled_more words' table' v (At n s') P = (λ g S. P.0 g (filled_shows g S), subst (λ (k : ℕ). Unchanged (5 * k + 5) table table') filled_long P.1)
-  filled_more words' table' v Short P = λ g S. omega (arith, filled_long, P g (filled_shows g S))
+  filled_more : (words' table' : List ℕ) (v : Vertex) (r : Option (Node × Counts)) → Pushes filled words' table table' s v r → Pushes words words' table table' s v r
+  filled_more words' table' v (Some (n, s')) P = (λ g S. P.0 g (filled_shows g S), subst (λ (k : ℕ). Unchanged (5 * k + 5) table table') filled_long P.1)
+  filled_more words' table' v None P = λ g S. omega (arith, filled_long, P g (filled_shows g S))
 
   -- a node more over them
-  pub filled-pushed : (words' table' args : List ℕ) (head : ℕ) → copied ≡ args → (r : Pushed) → Pushes filled words' table table' s (applied head (arguments_to filled s end)) r → Pushes words words' table table' s (applied head args) r
+  pub filled-pushed : (words' table' args : List ℕ) (head : ℕ) → copied ≡ args → (r : Option (Node × Counts)) → Pushes filled words' table table' s (applied head (arguments_to filled s end)) r → Pushes words words' table table' s (applied head args) r
   filled-pushed words' table' args head same r P =
       let e : arguments_to filled s end ≡ args = back (s.used + 1) end words copied more fits long ∙ same in
       filled_more words' table' (applied head args) r (subst (λ (xs : List ℕ). Pushes filled words' table table' s (applied head xs) r) e P)

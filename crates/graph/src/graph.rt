@@ -5,10 +5,9 @@ ghost use Rattle.graph.specs.Cells.{link_word, mark_in, rows_end, Laid, Shows, U
 ghost use Rattle.graph.specs.Links.{Holds, Found};
 ghost use Rattle.graph.specs.Nodes.{RootOf};
 ghost use Rattle.graph.specs.Joins.{Apart, Joins, Shares, Binds, HeadOf};
-ghost use Rattle.graph.specs.Pushes.{Rows, Pushes, arguments_to};
+ghost use Rattle.graph.specs.Pushes.{Rows, Next, Pushes, arguments_to};
 ghost use Rattle.definition.specs.Store.{nothing};
 
-use base::copy::copy_words;
 use base::id::{Ground, Node, Pattern};
 
 // How many nodes there are, and how many cells they take.
@@ -16,13 +15,6 @@ use base::id::{Ground, Node, Pattern};
 pub struct Graph {
     pub nodes: usize,
     pub used: usize,
-}
-
-// A node more: its number and the graph with it, or that there is no room for it.
-#[derive(Clone, Copy)]
-pub enum Pushed {
-    At(Node, Graph),
-    Short,
 }
 
 impl Graph {
@@ -128,10 +120,18 @@ impl Graph {
         Graph { nodes: 0, used: 0 }
     }
 
-    // The words of the next node, and where the one behind it starts.
-    fn put_row(self, cells: &[u32], table: &mut [u32], sort: u32, flex: u32, rigid: u32, end: usize)
-        requires { (self.nodes < length cells.now) × (rows_end cells.now ≤ length table.old) × (end < 4294967296) }
-        ensures { Rows cells.now table.old table.new self sort flex rigid end }
+    // The words of the next node, whose cells end at `end`; the node, and the graph with it.
+    fn put_row(
+        self,
+        cells: &[u32],
+        table: &mut [u32],
+        sort: u32,
+        flex: u32,
+        rigid: u32,
+        end: usize,
+    ) -> (Node, Graph)
+        requires { (self.nodes < length cells.now) × (rows_end cells.now ≤ length table.old) × (self.nodes < 4294967296) × (end < 4294967296) }
+        ensures { Rows cells.now table.old table.new self sort flex rigid end × Next self end result }
     {
         let at = Graph::FRONT * self.nodes;
         table[at + Graph::LINK] = 0;
@@ -140,9 +140,17 @@ impl Graph {
         table[rest] = sort;
         table[rest + Graph::FLEX] = flex;
         table[rest + Graph::RIGID] = rigid;
+        let n = self.nodes;
+        (
+            Node(n as u32),
+            Graph {
+                nodes: n + 1,
+                used: end,
+            },
+        )
     }
 
-    // A variable more; a mark is set or 0.
+    // A variable more, its node and the graph that has it; a mark is set or 0. None where the cells have no room.
     pub fn var(
         self,
         cells: &mut [u32],
@@ -150,25 +158,16 @@ impl Graph {
         sort: u32,
         flex: u32,
         rigid: u32,
-    ) -> Pushed
+    ) -> Option<(Node, Graph)>
         requires { Laid cells.old table.old self }
         ensures { Pushes cells.old cells.new table.old table.new self (variable_vertex sort (mark_in flex) (mark_in rigid)) result }
     {
         let at = self.used;
         if cells.len() <= at {
-            return Pushed::Short;
+            return None;
         }
         cells[at] = Pattern::VAR;
-        let end = at + 1;
-        self.put_row(cells, table, sort, flex, rigid, end);
-        let n = self.nodes;
-        Pushed::At(
-            Node(n as u32),
-            Graph {
-                nodes: n + 1,
-                used: end,
-            },
-        )
+        Some(self.put_row(cells, table, sort, flex, rigid, at + 1))
     }
 
     // Whether there is no room behind the last node for one of `n` arguments.
@@ -179,35 +178,38 @@ impl Graph {
         cells.len() - self.used <= n
     }
 
-    // An application more, whose arguments stand behind the place of its head, up to `end`.
-    pub fn push_laid(self, cells: &mut [u32], table: &mut [u32], head: u32, end: usize) -> Pushed
+    // An application more, whose arguments stand behind the place of its head, up to `end`: its node and the graph that has it, always.
+    pub fn push_laid(
+        self,
+        cells: &mut [u32],
+        table: &mut [u32],
+        head: u32,
+        end: usize,
+    ) -> Option<(Node, Graph)>
         requires { Laid cells.old table.old self × (self.used + 1 ≤ end) × (end ≤ length cells.old) }
         ensures { Pushes cells.old cells.new table.old table.new self (applied head (arguments_to cells.old self end)) result }
     {
-        let at = self.used;
-        cells[at] = head;
-        self.put_row(cells, table, Ground::NONE, 0, 0, end);
-        let n = self.nodes;
-        Pushed::At(
-            Node(n as u32),
-            Graph {
-                nodes: n + 1,
-                used: end,
-            },
-        )
+        cells[self.used] = head;
+        Some(self.put_row(cells, table, Ground::NONE, 0, 0, end))
     }
 
-    // An application more.
-    pub fn push(self, cells: &mut [u32], table: &mut [u32], head: u32, args: &[u32]) -> Pushed
+    // An application more, its node and the graph that has it; none where the cells have no room.
+    pub fn push(
+        self,
+        cells: &mut [u32],
+        table: &mut [u32],
+        head: u32,
+        args: &[u32],
+    ) -> Option<(Node, Graph)>
         requires { Laid cells.old table.old self }
         ensures { Pushes cells.old cells.new table.old table.new self (applied head args.now) result }
     {
         if self.lacks_room(cells, args.len()) {
-            return Pushed::Short;
+            return None;
         }
         let first = self.used + 1;
         let end = first + args.len();
-        copy_words(args, &mut cells[first..end]);
+        cells[first..end].copy_from_slice(args);
         self.push_laid(cells, table, head, end)
     }
 }

@@ -1,4 +1,5 @@
 -- The walk's turns over the one table: a node goes on with its arguments, the path is gone through, and all nodes are looked at.
+use Rattle.std.specs.Prelude.{Some}
 use Rattle.std.specs.Prelude.{◌≡◌, refl, Bool, true, false, List, ℕ, ◌+◌, ◌*◌, ◌-◌, ◌≤◌, ◌<◌, length, get_or, set, take, drop, replicate}
 use Rattle.std.proofs.Common.{sym, ap, ◌∙◌, arith}
 use Rattle.base.specs.Part.{put}
@@ -8,7 +9,6 @@ use Rattle.graph.specs.Cells.{rows_end, SameRows, rows-set, shows_rows, unchange
 use Rattle.graph.specs.Links.{Found}
 use Rattle.graph.specs.Nodes.{ArityOf}
 use Rattle.graph.specs.Inner.{HoldsInner}
-use Rattle.graph_unify.specs.declared.circle.Turn.TheVariants.{On}
 use Rattle.graph_unify.specs.Paths.{colour_of, node_at, looked_at}
 use Rattle.graph_unify.specs.Circles.{Enters, few_nodes, as_many, Walking, Finishes, Steppings, stepping_first, stepping_done, walking-node, walking-room, walk_again, first_ready, walks_so, Tellings, telling_first}
 use Rattle.graph_unify.specs.CircleWords.{colours_at, colours_end, path_in, colour_in, length_path, length_colour, path_at, colour_at, path_kept, colour_set, path_same, colour_same, Beyond, beyond_rows, Entering, EntersIn, WalkingIn, AdvancesIn, FinishesIn, IdleIn, WalksIn, TellsIn, under-rows}
@@ -43,7 +43,7 @@ module _ (words before table : List ℕ) (s : Counts) (top x n i : ℕ) (room : 
   abbrev ended : List ℕ
   ended = set table (colours_at words + x) 2
 
-  pub advance_done : n ≤ i → AdvancesIn words before ended s top (On top)
+  pub advance_done : n ≤ i → AdvancesIn words before ended s top (Some top)
   advance_done l =
       let R = rows-set words table (colours_at words + x) 2 (omega arith) in
       let M = stepping_done words before table (colour_in words before) (colour_in words table) (path_in words before) (path_in words table) s top x n i K l in (

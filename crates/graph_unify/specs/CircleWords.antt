@@ -1,4 +1,5 @@
 -- Where the walk's words stand: behind the rows the path, where unification has its pairs, and behind that a colour for each node.
+use Rattle.std.specs.Prelude.{Option}
 use Rattle.std.specs.Prelude.{◌≡◌, Bool, true, false, List, ℕ, suc, ◌+◌, ◌*◌, ◌≤◌, ◌<◌, get_or, set}
 use Rattle.std.proofs.Common.{sym, ap, ◌∙◌, arith, length-set}
 use Rattle.std.proofs.Math.ListN.{length}
@@ -11,7 +12,6 @@ use Rattle.graph.specs.Links.{Found}
 use Rattle.graph.specs.Nodes.{ArgumentOf}
 use Rattle.graph_unify.specs.declared.circle.Seen.{Seen}
 use Rattle.graph_unify.specs.declared.circle.Seen.TheVariants.{Ends, Deeper, Circle as Met}
-use Rattle.graph_unify.specs.declared.circle.Turn.{Turn}
 use Rattle.graph_unify.specs.Paths.{colour_of}
 use Rattle.graph_unify.specs.Circles.{Enters, enters_variable, enters_application, Under, few_nodes, as_many, Looking, Looks, looks_ends, looks_circle, looks_variable, looks_deeper, Walking, Advances, Finishes, Idle, Walks, Tells}
 
@@ -101,7 +101,7 @@ LooksIn words table table' s top x i r = Looks words table table' (colour_in wor
 abbrev pub WalkingIn : List ℕ → List ℕ → Counts → ℕ → Type 0
 WalkingIn words table s top = Walking words table (colour_in words table) (path_in words table) s top × (colours_end words ≤ length table)
 
-abbrev pub AdvancesIn : List ℕ → List ℕ → List ℕ → Counts → ℕ → Turn → Type 0
+abbrev pub AdvancesIn : List ℕ → List ℕ → List ℕ → Counts → ℕ → Option ℕ → Type 0
 AdvancesIn words table table' s top r = Advances words table table' (colour_in words table) (colour_in words table') (path_in words table) (path_in words table') s top r × Beyond words table table'
 
 abbrev pub FinishesIn : List ℕ → List ℕ → List ℕ → Counts → ℕ → Bool → Type 0

@@ -1,4 +1,5 @@
 -- The test for circles in words: a walk over the graph that is held.
+use Rattle.std.specs.Prelude.{Option, Some, None}
 use Rattle.std.specs.Prelude.{◌≡◌, refl, Bool, true, false, List, ℕ, suc, ◌+◌, ◌*◌, ◌-◌, ◌≤◌, ◌<◌, length, get_or, set}
 use Rattle.std.proofs.Common.{sym, ap, subst, ◌∙◌, arith, add-one, length-set, get_or-set_same, get_or-set_other}
 use Rattle.std.proofs.Math.Option.{none}
@@ -10,8 +11,6 @@ use Rattle.definition.specs.Store.{nothing}
 use Rattle.graph.specs.declared.graph.Graph.{Graph as Counts}
 use Rattle.graph_unify.specs.declared.circle.Seen.{Seen}
 use Rattle.graph_unify.specs.declared.circle.Seen.TheVariants.{Ends, Deeper, Circle as Met}
-use Rattle.graph_unify.specs.declared.circle.Turn.{Turn}
-use Rattle.graph_unify.specs.declared.circle.Turn.TheVariants.{On, Circle}
 use Rattle.graph.specs.Cells.{start_in, Laid, Shows, nodes_few}
 use Rattle.graph.specs.Links.{Holds, Found}
 use Rattle.graph.specs.Nodes.{arity_of, argument_there, end_there, ArityOf, ArgumentOf}
@@ -61,10 +60,10 @@ Looks words table table' colour colour' path path' s top x i Met = (g : Graph) �
 abbrev pub Walking : List ℕ → List ℕ → List ℕ → List ℕ → Counts → ℕ → Type 0
 Walking words table colour path s top = (g : Graph) × Inner g × Under words table colour path s g top × Last g colour path top
 
-abbrev pub Advances : List ℕ → List ℕ → List ℕ → List ℕ → List ℕ → List ℕ → List ℕ → Counts → ℕ → Turn → Type 0
-Advances words table table' colour colour' path path' s top (On r) =
+abbrev pub Advances : List ℕ → List ℕ → List ℕ → List ℕ → List ℕ → List ℕ → List ℕ → Counts → ℕ → Option ℕ → Type 0
+Advances words table table' colour colour' path path' s top (Some r) =
     (g : Graph) → Inner g → Under words table colour path s g (suc top) → Last g colour path (suc top) → Under words table' colour' path' s g r × Last g colour' path' r × (to_do colour' (length g) < to_do colour (length g)) × StillSeen colour colour'
-Advances words table table' colour colour' path path' s top Circle = (g : Graph) → Inner g → Under words table colour path s g (suc top) → Last g colour path (suc top) → Shows words table' s g × (circular g ≡ true)
+Advances words table table' colour colour' path path' s top None = (g : Graph) → Inner g → Under words table colour path s g (suc top) → Last g colour path (suc top) → Shows words table' s g × (circular g ≡ true)
 
 -- ---- all nodes on the path go on to their ends
 abbrev pub Finishes : List ℕ → List ℕ → List ℕ → List ℕ → List ℕ → List ℕ → List ℕ → Counts → ℕ → Bool → Type 0
@@ -294,18 +293,18 @@ module _ (words before table colour₀ colour path₀ path : List ℕ) (s : Coun
         let m = M g I k.here (omega (arith, k.arity)) in
         record { here = subst (At words table' colour' path' s g top x) (sym (add-one i)) m.0; arity = k.arity; low = omega arith; less = omega (arith, m.1, k.less); seen = λ z d. m.2 z (k.seen z d) }
 
-    pub stepping_deeper : Looks words table table' colour colour' path path' s top x i Deeper → Advances words before table' colour₀ colour' path₀ path' s top (On (top + 2))
+    pub stepping_deeper : Looks words table table' colour colour' path path' s top x i Deeper → Advances words before table' colour₀ colour' path₀ path' s top (Some (top + 2))
     stepping_deeper M g I U L =
         let k = K g I U L in
         let m = M g I k.here (omega (arith, k.arity)) in
         let e : suc (suc top) ≡ top + 2 = omega arith in
         (subst (Under words table' colour' path' s g) e m.0, subst (Last g colour' path') e m.1, omega (arith, m.2, k.less), λ z d. m.3 z (k.seen z d))
 
-    pub stepping_circle : Looks words table table' colour colour' path path' s top x i Met → Advances words before table' colour₀ colour' path₀ path' s top Circle
+    pub stepping_circle : Looks words table table' colour colour' path path' s top x i Met → Advances words before table' colour₀ colour' path₀ path' s top None
     stepping_circle M g I U L = let k = K g I U L in M g I k.here (omega (arith, k.arity))
 
   -- all of them end: so does it
-  pub stepping_done : n ≤ i → Advances words before table colour₀ (set colour x 2) path₀ path s top (On top)
+  pub stepping_done : n ≤ i → Advances words before table colour₀ (set colour x 2) path₀ path s top (Some top)
   stepping_done l g I U L =
       let k = K g I U L in
       let P = k.here in
@@ -344,19 +343,19 @@ module _ (words before table colour₀ colour path₀ path : List ℕ) (s : Coun
   pub onward_ready : Walking words before colour₀ path₀ s start → Walking words table colour path s (top + 1)
   onward_ready H = let k = K H.0 H.1 H.2 H.3 in subst (Walking words table colour path s) (sym (add-one top)) (H.0, H.1, k.under, k.last)
 
-  pub onward_on : (table' colour' path' : List ℕ) (r : ℕ) → Advances words table table' colour colour' path path' s top (On r) → Onwards words before table' colour₀ colour' path₀ path' s start r
+  pub onward_on : (table' colour' path' : List ℕ) (r : ℕ) → Advances words table table' colour colour' path path' s top (Some r) → Onwards words before table' colour₀ colour' path₀ path' s start r
   onward_on table' colour' path' r M g I U L =
       let k = K g I U L in
       let m = M g I k.under k.last in
       record { under = m.0; last = m.1; seen = λ z d. m.3 z (k.seen z d) }
 
   -- each turn leaves less to do
-  pub onward_less : Walking words before colour₀ path₀ s start → (table' colour' path' : List ℕ) (r : ℕ) → Advances words table table' colour colour' path path' s top (On r) → to_do colour' s.nodes < to_do colour s.nodes
+  pub onward_less : Walking words before colour₀ path₀ s start → (table' colour' path' : List ℕ) (r : ℕ) → Advances words table table' colour colour' path path' s top (Some r) → to_do colour' s.nodes < to_do colour s.nodes
   onward_less H table' colour' path' r M =
       let k = K H.0 H.1 H.2 H.3 in
       subst (λ (n : ℕ). to_do colour' n < to_do colour n) (as_many words before s H.0 H.2.shows) (M H.0 H.1 k.under k.last).2
 
-  pub onward_circle : (table' colour' path' : List ℕ) → Advances words table table' colour colour' path path' s top Circle → Finishes words before table' colour₀ colour' path₀ path' s start true
+  pub onward_circle : (table' colour' path' : List ℕ) → Advances words table table' colour colour' path path' s top None → Finishes words before table' colour₀ colour' path₀ path' s start true
   onward_circle table' colour' path' M g I U L = let k = K g I U L in M g I k.under k.last
 
 pub onward-done : (words before table colour₀ colour path₀ path : List ℕ) (s : Counts) (start : ℕ) → Onwards words before table colour₀ colour path₀ path s start 0 → Finishes words before table colour₀ colour path₀ path s start false

@@ -1,4 +1,5 @@
 -- Unification: pairs are taken from the stack until none is left.
+use Rattle.std.specs.Prelude.{Option, Some, None, Result, Ok, Err}
 use Rattle.std.specs.Prelude.{◌≡◌, List, [], ℕ, zero, suc, ◌+◌, ◌*◌, ◌-◌, ◌≤◌, ◌<◌, length, get_or, set}
 use Rattle.std.proofs.Math.Path.{refl}
 use Rattle.std.proofs.Common.{sym, ap, ap₂, subst, ◌∙◌, arith, length-set, get_or-set_same, get_or-set_other}
@@ -15,10 +16,6 @@ use Rattle.theory.specs.Unification.Inner.{same_inner}
 use Rattle.theory.specs.Unification.Turn.{Within, meet_keeps}
 use Rattle.graph.specs.declared.graph.Graph.{Graph as Counts}
 use Rattle.graph_unify.specs.declared.pairs.Pairs.{Pairs}
-use Rattle.graph_unify.specs.declared.meet.Met.{Met}
-use Rattle.graph_unify.specs.declared.meet.Met.TheVariants.{On, Clash as Unlike}
-use Rattle.graph_unify.specs.declared.unify.Outcome.{Outcome}
-use Rattle.graph_unify.specs.declared.unify.Outcome.TheVariants.{Joined, Clash}
 use Rattle.graph.specs.Cells.{start_in, link_word, link_in, graph_in, length-graph_in, rows_end, Shows, SameRows, rows_then, rows-set, shows_rows, Unchanged, unchanged_same, unchanged_then, unchanged_later, unchanged_set}
 use Rattle.graph.specs.Links.{Holds, Found, link_of, found_here}
 use Rattle.graph.specs.Pushes.{cells_shown}
@@ -136,20 +133,20 @@ taking_done words table s taken g₀ x y T = sym T.left ∙ none_left T.fuel T.g
     none_left (suc k) g n = unfold take_pairs in refl
 
 -- what unifying answers, of whatever inner graph is held; beyond the pairs nothing changes
-abbrev pub Unifies : List ℕ → List ℕ → List ℕ → Counts → ℕ → ℕ → Outcome → Type 0
-Unifies words table table' s x y (Joined n) = ((g : Graph) → Shows words table s g → Inner g → (h : Graph) × (unify g x y ≡ record { graph = some h; taken = n }) × Shows words table' s h × Inner h) × Unchanged (pairs_end words) table table'
-Unifies words table table' s x y (Clash n) = ((g : Graph) → Shows words table s g → Inner g → unify g x y ≡ record { graph = none; taken = n }) × Unchanged (pairs_end words) table table'
+abbrev pub Unifies : List ℕ → List ℕ → List ℕ → Counts → ℕ → ℕ → Result ℕ ℕ → Type 0
+Unifies words table table' s x y (Ok n) = ((g : Graph) → Shows words table s g → Inner g → (h : Graph) × (unify g x y ≡ record { graph = some h; taken = n }) × Shows words table' s h × Inner h) × Unchanged (pairs_end words) table table'
+Unifies words table table' s x y (Err n) = ((g : Graph) → Shows words table s g → Inner g → unify g x y ≡ record { graph = none; taken = n }) × Unchanged (pairs_end words) table table'
 
 -- ---- one turn: the roots of the pair behind the others meet
 abbrev pub Ready : List ℕ → List ℕ → Counts → ℕ → Type 0
 Ready words table s top = (g₀ : Graph) × (x y taken : ℕ) × Taking words table s (suc top) taken g₀ x y
 
-abbrev pub Takes : List ℕ → List ℕ → List ℕ → Counts → ℕ → Met → Type 0
-Takes words table table' s top (On more) =
+abbrev pub Takes : List ℕ → List ℕ → List ℕ → Counts → ℕ → Option Pairs → Type 0
+Takes words table table' s top (Some more) =
     ((g : Graph) → Shows words table s g → (h : Graph) × (meet g (root g (left_word words table top)) (root g (right_word words table top)) (pairs_in (rows_end words) table top) ≡ on h (pairs_in (rows_end words) table' more.top)) × Shows words table' s h)
     × Unchanged (pairs_end words) table table'
     × Topmost words table' more
-Takes words table table' s top Unlike = ((g : Graph) → Shows words table s g → meet g (root g (left_word words table top)) (root g (right_word words table top)) (pairs_in (rows_end words) table top) ≡ clashed) × Unchanged (pairs_end words) table table'
+Takes words table table' s top None = ((g : Graph) → Shows words table s g → meet g (root g (left_word words table top)) (root g (right_word words table top)) (pairs_in (rows_end words) table top) ≡ clashed) × Unchanged (pairs_end words) table table'
 
 -- the pair stands there, and its nodes are nodes
 module _ (words table : List ℕ) (s : Counts) (top : ℕ) (R : Ready words table s top) where
@@ -206,15 +203,15 @@ module _ (words table mid table' : List ℕ) (s : Counts) (top l r : ℕ) (F : F
   beyond : (table'' : List ℕ) → Unchanged (pairs_end words) table' table'' → Unchanged (pairs_end words) table table''
   beyond table'' U = unchanged_then (pairs_end words) table table' table'' (unchanged_later (rows_end words) (pairs_end words) table table' (omega arith) untouched) U
 
-  turn_on : (table'' : List ℕ) (more : Pairs) → Meets words table' table'' s top l r (On more) → Takes words table table'' s top (On more)
+  turn_on : (table'' : List ℕ) (more : Pairs) → Meets words table' table'' s top l r (Some more) → Takes words table table'' s top (Some more)
   turn_on table'' more M = (λ g S. let m = M.0 g (still g S) in (m.0, roots_meet g S ∙ m.1, m.2), beyond table'' M.1, M.2)
 
-  turn-unlike : (table'' : List ℕ) → Meets words table' table'' s top l r Unlike → Takes words table table'' s top Unlike
+  turn-unlike : (table'' : List ℕ) → Meets words table' table'' s top l r None → Takes words table table'' s top None
   turn-unlike table'' M = (λ g S. roots_meet g S ∙ M.0 g (still g S), beyond table'' M.1)
 
-  pub turn_says : (table'' : List ℕ) (m : Met) → Meets words table' table'' s top l r m → Takes words table table'' s top m
-  turn_says table'' (On more) M = turn_on table'' more M
-  turn_says table'' Unlike M = turn-unlike table'' M
+  pub turn_says : (table'' : List ℕ) (m : Option Pairs) → Meets words table' table'' s top l r m → Takes words table table'' s top m
+  turn_says table'' (Some more) M = turn_on table'' more M
+  turn_says table'' None M = turn-unlike table'' M
 
 -- ---- the turns together
 pub record Going (words before table : List ℕ) (s : Counts) (top taken x y : ℕ) : Type 0 where
@@ -237,7 +234,7 @@ module _ (words before table : List ℕ) (s : Counts) (top taken x y : ℕ) (G :
   pub going_few : taken ≤ s.used
   going_few = let T = G.state H.0 H.1 H.2 in omega (arith, T.enough, T.most)
 
-  pub going_on : (table' : List ℕ) (more : Pairs) → Takes words table table' s top (On more) → Going words before table' s more.top (taken + 1) x y
+  pub going_on : (table' : List ℕ) (more : Pairs) → Takes words table table' s top (Some more) → Going words before table' s more.top (taken + 1) x y
   going_on table' more M = record {
     state = λ g S I.
         let T = G.state g S I in
@@ -246,10 +243,10 @@ module _ (words before table : List ℕ) (s : Counts) (top taken x y : ℕ) (G :
     beyond = unchanged_then (pairs_end words) before table table' G.beyond M.1;
   }
 
-  pub going_clash : (table' : List ℕ) → Takes words table table' s top Unlike → Unifies words before table' s x y (Clash (taken + 1))
+  pub going_clash : (table' : List ℕ) → Takes words table table' s top None → Unifies words before table' s x y (Err (taken + 1))
   going_clash table' M = (λ g S I. let T = G.state g S I in taking_clash words table s top taken g x y T (M.0 T.graph T.shows), unchanged_then (pairs_end words) before table table' G.beyond M.1)
 
-pub going_done : (words before table : List ℕ) (s : Counts) (taken x y : ℕ) → Going words before table s 0 taken x y → Unifies words before table s x y (Joined taken)
+pub going_done : (words before table : List ℕ) (s : Counts) (taken x y : ℕ) → Going words before table s 0 taken x y → Unifies words before table s x y (Ok taken)
 going_done words before table s taken x y G = (λ g S I. let T = G.state g S I in (T.graph, taking_done words table s taken g x y T, T.shows, T.inner), G.beyond)
 
 -- ---- the first pair is written
@@ -294,8 +291,8 @@ module _ (words table : List ℕ) (s : Counts) (x y : ℕ) (room : pairs_end wor
       (unchanged_then (pairs_end words) table (set table at x) first_pair (unchanged_set (pairs_end words) table at x (omega arith)) (unchanged_set (pairs_end words) (set table at x) (at + 1) y (omega arith))) U
 
   -- what is said from there on is said of the whole
-  pub joined-first : (table' : List ℕ) (n : ℕ) → Unifies words first_pair table' s x y (Joined n) → Unifies words table table' s x y (Joined n)
+  pub joined-first : (table' : List ℕ) (n : ℕ) → Unifies words first_pair table' s x y (Ok n) → Unifies words table table' s x y (Ok n)
   joined-first table' n U = (λ g S I. U.0 g (shows_rows words table first_pair s g first_rows S) I, first_beyond table' U.1)
 
-  pub clash_first : (table' : List ℕ) (n : ℕ) → Unifies words first_pair table' s x y (Clash n) → Unifies words table table' s x y (Clash n)
+  pub clash_first : (table' : List ℕ) (n : ℕ) → Unifies words first_pair table' s x y (Err n) → Unifies words table table' s x y (Err n)
   clash_first table' n U = (λ g S I. U.0 g (shows_rows words table first_pair s g first_rows S) I, first_beyond table' U.1)

@@ -6,7 +6,6 @@ ghost use Rattle.graph_unify.specs.CircleWords.{colours_end, Entering, EntersIn,
 
 use base::id::{Node, Pattern};
 use base::stack::Frame;
-use buffer::zero::zero_words;
 use graph::graph::Graph;
 use graph::places::{colours_at, pairs_at};
 
@@ -28,13 +27,6 @@ impl Colour {
 enum Seen {
     Ends,
     Deeper,
-    Circle,
-}
-
-// So many nodes stand on the path, or there is a circle.
-#[derive(Clone, Copy)]
-enum Turn {
-    On(usize),
     Circle,
 }
 
@@ -79,31 +71,30 @@ fn look(g: Graph, cells: &[u32], table: &mut [u32], top: usize, x: Node, i: usiz
     Seen::Deeper
 }
 
-// The node on the path behind `top` others goes on with its arguments, to one that stands on top from then on or to its own end.
-fn advance(g: Graph, cells: &[u32], table: &mut [u32], top: usize) -> Turn
+// The node on the path behind `top` others goes on with its arguments, to one that stands on top from then on or to its own end; none is
+// a circle.
+fn advance(g: Graph, cells: &[u32], table: &mut [u32], top: usize) -> Option<usize>
     requires { WalkingIn cells.now table.old g (top + 1) }
     ensures { AdvancesIn cells.now table.old table.new g top result }
 {
     let at = pairs_at(cells) + Frame::WORDS * top;
     let x = Node(table[at]);
     let n = g.arity(cells, table, x);
-    let mut i = table[at + Frame::TAKEN] as usize;
-    while i < n {
+    let taken = table[at + Frame::TAKEN] as usize;
+    for i in taken..n {
         match look(g, cells, table, top, x, i) {
-            Seen::Ends => {
-                i += 1;
-            }
+            Seen::Ends => {}
             Seen::Deeper => {
-                return Turn::On(top + 2);
+                return Some(top + 2);
             }
             Seen::Circle => {
-                return Turn::Circle;
+                return None;
             }
         }
     }
     let colours = colours_at(cells);
     table[colours + x.0 as usize] = Colour::DONE;
-    Turn::On(top)
+    Some(top)
 }
 
 // The nodes on the path are gone through, down to the last one; whether a circle is met.
@@ -113,14 +104,10 @@ fn finish(g: Graph, cells: &[u32], table: &mut [u32], start: usize) -> bool
 {
     let mut top = start;
     while 0 < top {
-        match advance(g, cells, table, top - 1) {
-            Turn::On(more) => {
-                top = more;
-            }
-            Turn::Circle => {
-                return true;
-            }
-        }
+        let Some(more) = advance(g, cells, table, top - 1) else {
+            return true;
+        };
+        top = more;
     }
     false
 }
@@ -146,13 +133,11 @@ pub fn circular(g: Graph, cells: &[u32], table: &mut [u32]) -> bool
 {
     let n = g.nodes;
     let colours = colours_at(cells);
-    zero_words(&mut table[colours..colours + n]);
-    let mut x: usize = 0;
-    while x < n {
+    table[colours..colours + n].fill(0);
+    for x in 0..n {
         if walk(g, cells, table, Node(x as u32)) {
             return true;
         }
-        x += 1;
     }
     false
 }

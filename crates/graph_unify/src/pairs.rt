@@ -1,5 +1,5 @@
 // The pairs that unification still has to take.
-ghost use Rattle.std.specs.Prelude.{◌≡◌, ◌+◌, ◌*◌, ◌≤◌, ◌<◌, min, length};
+ghost use Rattle.std.specs.Prelude.{◌≡◌, ◌+◌, ◌*◌, ◌≤◌, ◌<◌, length};
 ghost use Rattle.graph.specs.Cells.{rows_end};
 ghost use Rattle.graph.specs.Links.{Holds};
 ghost use Rattle.graph_unify.specs.Pairs.{Topmost, PairsRoom, PairsOn};
@@ -18,16 +18,6 @@ pub struct Pairs {
     pub right: Node,
 }
 
-// The lesser of two numbers.
-fn least(a: usize, b: usize) -> usize
-    ensures { result ≡ min a b }
-{
-    if a < b {
-        return a;
-    }
-    b
-}
-
 // The pairs on the stack behind the rows.
 pub fn top_pair(cells: &[u32], table: &[u32], top: usize) -> Pairs
     requires { (rows_end cells.now + 2 * top ≤ length table.now) × (2 * top ≤ 2 * length cells.now + 2) × (length cells.now < nothing) }
@@ -42,7 +32,7 @@ pub fn top_pair(cells: &[u32], table: &[u32], top: usize) -> Pairs
     }
     let at = pairs_at(cells) + Frame::WORDS * (top - 1);
     Pairs {
-        top: top,
+        top,
         left: Node(table[at]),
         right: Node(table[at + Frame::SECOND]),
     }
@@ -55,25 +45,23 @@ pub fn push_pairs(g: Graph, cells: &[u32], table: &mut [u32], top: usize, x: Nod
 {
     let a = g.arity(cells, table, x);
     let b = g.arity(cells, table, y);
-    let n = least(a, b);
+    let n = a.min(b);
     let rows = pairs_at(cells);
     let mut left = Node(0);
     let mut right = Node(0);
-    let mut i: usize = 0;
-    while i < n {
+    for i in 0..n {
         let at = rows + Frame::WORDS * (top + i);
         left = g.argument(cells, table, x, i);
         right = g.argument(cells, table, y, i);
         table[at] = left.0;
         table[at + Frame::SECOND] = right.0;
-        i += 1;
     }
     if n == 0 {
         return top_pair(cells, table, top);
     }
     Pairs {
         top: top + n,
-        left: left,
-        right: right,
+        left,
+        right,
     }
 }

@@ -5,7 +5,6 @@ ghost use Rattle.std.specs.Prelude.{◌≡◌, length};
 ghost use Rattle.definition.specs.Check.{CheckLeft};
 ghost use Rattle.host_read.specs.Read.{read_only};
 
-use buffer::zero::zero_words;
 use definition::Answer;
 use dock_call::answer::outcome_answer;
 use dock_call::lent::Lent;
@@ -26,6 +25,6 @@ pub extern "C" fn parse_pack(pack: &[u8], work: &mut [u32]) -> Answer
         goals: 0,
     };
     let outcome = open_pack(lent, pack, work);
-    zero_words(work);
+    work.fill(0);
     outcome_answer(outcome)
 }

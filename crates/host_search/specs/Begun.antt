@@ -1,4 +1,5 @@
 -- The search from a state without lines: what it asks and answers.
+use Rattle.std.specs.Prelude.{Result}
 use Rattle.std.specs.Prelude.{◌≡◌, length, take}
 use Rattle.std.proofs.Math.Path.{refl, sym, ap, ap₂, subst}
 use Rattle.std.proofs.Common.{◌∙◌}
@@ -29,12 +30,12 @@ use Rattle.emit_state.specs.declared.standing.Standing.{Standing}
 use Rattle.emit_state.specs.declared.standing.Proved.{Proved}
 use Rattle.emit_state.specs.declared.standing.Proved.TheVariants.{Line, Fails, Refused}
 use Rattle.host_search.specs.declared.asked.Query.{Query}
-use Rattle.host_search.specs.declared.answer.Sought.{Sought}
 use Rattle.host_search.specs.Came.{told}
 use Rattle.host_search.specs.Searched.{judged, setting_of, line_in, told_by, sought}
 use Rattle.host_search.specs.Ends.{Comes, sought_of}
 use Rattle.host_search.specs.Asked.{Given}
 use Rattle.host_search.specs.Judged.{begins_sound, begins_has, begins_supposed}
+use Rattle.definition.specs.declared.Answer.{Answer}
 
 -- a store of patterns with its places in work, and the judgment that is asked for among them
 pub record Beginning (bytes work words : List ℕ) (text : ℕ) (l : Places) (st : Store) (j : ℕ) (q : Query) : Type 0 where
@@ -49,7 +50,7 @@ pub record Beginning (bytes work words : List ℕ) (text : ℕ) (l : Places) (st
   pub judgment : OfHeld bytes work l.hand.catalog (λ P. judged P q.node ≡ stored j (nodes words st))
 
 -- what is answered of whatever pack is held, in whatever lengths
-abbrev pub BegunFrom : List ℕ → List ℕ → List ℕ → List ℕ → ℕ → Places → Store → ℕ → Query → Sought → Type 0
+abbrev pub BegunFrom : List ℕ → List ℕ → List ℕ → List ℕ → ℕ → Places → Store → ℕ → Query → Result (ℕ × ℕ) Answer → Type 0
 BegunFrom bytes work words proof' text l st j q r =
     (lent : Lent) → lent.pattern ≡ length words → lent.text ≡ text → OfHeld bytes work l.hand.catalog (λ P. Comes proof' (sought lent P q.depth q.name (stored j (nodes words st))) r)
 
@@ -105,7 +106,7 @@ module _ (bytes work work' words proof : List ℕ) (l : Places) (st : Store) (j 
       )
 
   -- what is answered of it
-  pub begun-sought : (work'' words'' proof'' : List ℕ) (r : Proved) (s : Sought)
+  pub begun-sought : (work'' words'' proof'' : List ℕ) (r : Proved) (s : Result (ℕ × ℕ) Answer)
       → Answers (lends bytes work' words proof) (lends bytes work'' words'' proof'') l m j (λ w. prove (levels - q.depth) w.setting w.hyps j) r → s ≡ sought_of r → BegunFrom bytes work words proof'' (length proof) l st j q s
   unfolding sought
   begun-sought work'' words'' proof'' r s N e lent p t P R Q =
@@ -114,4 +115,4 @@ module _ (bytes work work' words proof : List ℕ) (l : Places) (st : Store) (j 
       let h = begins_has P Q q.name q.node q.depth G j (nodes words st) J in
       let C = N.comes (world lent P) (fresh (nodes words st)) (ready lent p t P R Q) h in
       let o = outcome lent (prove (levels - q.depth) (setting_of P q.name) [] j (fresh (nodes words st))) in
-      subst (λ (x : Sought). Comes proof'' (told_by P q.name o) x) (sym e) (comes_told bytes work'' words'' proof'' l (world lent P) P q.name refl refl o r C)
+      subst (λ (x : Result (ℕ × ℕ) Answer). Comes proof'' (told_by P q.name o) x) (sym e) (comes_told bytes work'' words'' proof'' l (world lent P) P q.name refl refl o r C)

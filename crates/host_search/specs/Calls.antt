@@ -1,4 +1,5 @@
 -- The call's own functions: what they answer.
+use Rattle.std.specs.Prelude.{Some, None, Result, Err}
 use Rattle.std.specs.Prelude.{◌≡◌, Bool, true, false, List, ℕ, ◌+◌, ◌*◌, ◌-◌, ◌/◌, ◌≤◌}
 use Rattle.std.proofs.Math.Path.{refl, sym, ap, subst}
 use Rattle.std.proofs.Common.{◌∙◌, arith, le-leb}
@@ -15,7 +16,6 @@ use Rattle.base.specs.declared.id.Pattern.{Pattern}
 use Rattle.store.specs.Stored.{Stored, nodes}
 use Rattle.store.specs.Words.{begins_long}
 use Rattle.store.specs.declared.nodes.Store.{Store}
-use Rattle.store.specs.declared.nodes.Interned.TheVariants.{Id, Short}
 use Rattle.pack_tables.specs.Catalog.{records_of}
 use Rattle.pack_tables.specs.SameTables.{Same, same_then}
 use Rattle.pack_tables.specs.declared.catalog.Catalog.{Catalog}
@@ -29,8 +29,6 @@ use Rattle.theory.specs.Walks.Again.{stored}
 use Rattle.host_walk.specs.Places.{Lays, Stores}
 use Rattle.emit_state.specs.Places.{index_in, Laid}
 use Rattle.host_search.specs.declared.asked.Query.{Query}
-use Rattle.host_search.specs.declared.answer.Sought.{Sought}
-use Rattle.host_search.specs.declared.answer.Sought.TheVariants.{Refused}
 use Rattle.host_search.specs.Came.{lent_to}
 use Rattle.host_search.specs.Searched.{is_asked, judged, sought, node_searched, pack_searched}
 use Rattle.host_search.specs.Ends.{Comes, refused_by}
@@ -38,13 +36,14 @@ use Rattle.host_search.specs.Judged.{Judges}
 use Rattle.host_search.specs.Asked.{asked-given}
 use Rattle.host_search.specs.Begun.{Beginning, BegunFrom}
 use Rattle.host_search.specs.Opened.{places_for, Asking, asking_held, asking_end}
+use Rattle.definition.specs.declared.Answer.{Answer}
 
 -- the lengths lent
 abbrev pub lent_by : List ℕ → List ℕ → ℕ → ℕ → Lent
 lent_by bytes work patterns text = lent_to (length bytes) (length work) patterns text
 
 -- what is answered of whatever pack is held
-abbrev pub FromNode : List ℕ → List ℕ → List ℕ → ℕ → ℕ → Catalog → Query → Sought → Type 0
+abbrev pub FromNode : List ℕ → List ℕ → List ℕ → ℕ → ℕ → Catalog → Query → Result (ℕ × ℕ) Answer → Type 0
 FromNode bytes work proof' patterns text c q r = OfHeld bytes work c (λ P. Comes proof' (node_searched (lent_by bytes work patterns text) P q.node q.depth q.name) r)
 
 module _ (bytes work words : List ℕ) (text : ℕ) (c : Catalog) (q : Query) (K : Asking bytes work (length words) text c q) (l : Lifted) (L : Lays work (length words) c l) where
@@ -58,13 +57,13 @@ module _ (bytes work words : List ℕ) (text : ℕ) (c : Catalog) (q : Query) (K
     reads_first P R = reads_on bytes work work₁ c T.same held.cataloged P R
 
     -- the patterns have no room
-    pub node_short : Judges bytes work₁ words work₂ words' c l q.node Short → (proof' : List ℕ) (r : Sought) → r ≡ refused_by (ShortOf 2) → FromNode bytes work proof' (length words) text c q r
+    pub node_short : Judges bytes work₁ words work₂ words' c l q.node None → (proof' : List ℕ) (r : Result (ℕ × ℕ) Answer) → r ≡ refused_by (ShortOf 2) → FromNode bytes work proof' (length words) text c q r
     unfolding node_searched answer_of
     node_short J proof' r e P R Q =
         let h = J P (reads_first P R) Q in
-        subst (λ (x : Sought). Comes proof' (node_searched (lent_by bytes work (length words) text) P q.node q.depth q.name) x) (sym e) (tt, sym (rw (lt-leb _ _ h, node_searched)))
+        subst (λ (x : Result (ℕ × ℕ) Answer). Comes proof' (node_searched (lent_by bytes work (length words) text) P q.node q.depth q.name) x) (sym e) (tt, sym (rw (lt-leb _ _ h, node_searched)))
 
-    module _ (j : Pattern) (st : Store) (J : Judges bytes work₁ words work₂ words' c l q.node (Id j st)) where
+    module _ (j : Pattern) (st : Store) (J : Judges bytes work₁ words work₂ words' c l q.node (Some (j, st))) where
       -- the tables are as they were
       same : Same work work₂ c
       same = same_then work work₁ work₂ c T.same (laid_same bytes work₁ words c l st₀ T.lifts.laid work₂ J.2.long J.2.ahead)
@@ -113,7 +112,7 @@ module _ (bytes work words : List ℕ) (text : ℕ) (c : Catalog) (q : Query) (K
           }
 
       -- what is answered of it
-      pub node-sought : (proof' : List ℕ) (r : Sought) → BegunFrom bytes work₂ words' proof' text (places_for (length words') c l q.name) st j.0 q r → FromNode bytes work proof' (length words) text c q r
+      pub node-sought : (proof' : List ℕ) (r : Result (ℕ × ℕ) Answer) → BegunFrom bytes work₂ words' proof' text (places_for (length words') c l q.name) st j.0 q r → FromNode bytes work proof' (length words) text c q r
       unfolding node_searched
       node-sought proof' r B P R Q =
           let e = are P R Q in
@@ -123,11 +122,11 @@ module _ (bytes work words : List ℕ) (text : ℕ) (c : Catalog) (q : Query) (K
           (C.0, C.1 ∙ ap (sought (lent_by bytes work (length words) text) P q.depth q.name) (sym e) ∙ sym (rw (le-leb _ _ few, node_searched)))
 
 -- ---- the pack
-abbrev pub FromPack : List ℕ → List ℕ → List ℕ → ℕ → ℕ → Query → Sought → Type 0
+abbrev pub FromPack : List ℕ → List ℕ → List ℕ → ℕ → ℕ → Query → Result (ℕ × ℕ) Answer → Type 0
 FromPack bytes work proof' patterns text q r = (P : Pack) → parse bytes ≡ fine P → Represents bytes work P → Comes proof' (pack_searched (lent_by bytes work patterns text) P q.node q.depth q.name) r
 
 -- what is asked for is there
-pub pack_node : (bytes work proof' : List ℕ) (patterns text : ℕ) (c : Catalog) (q : Query) (r : Sought) → c ≡ tables_of (length bytes) → (b : Bool) → OfHeld bytes work c (λ P. b ≡ is_asked P q.node q.depth) → b ≡ true
+pub pack_node : (bytes work proof' : List ℕ) (patterns text : ℕ) (c : Catalog) (q : Query) (r : Result (ℕ × ℕ) Answer) → c ≡ tables_of (length bytes) → (b : Bool) → OfHeld bytes work c (λ P. b ≡ is_asked P q.node q.depth) → b ≡ true
     → FromNode bytes work proof' patterns text c q r → FromPack bytes work proof' patterns text q r
 unfolding pack_searched
 pack_node bytes work proof' patterns text c q r e b A t N P f R =
@@ -138,11 +137,11 @@ pack_node bytes work proof' patterns text c q r e b A t N P f R =
 
 -- it is not
 pub pack_wrong : (bytes work proof' : List ℕ) (patterns text : ℕ) (c : Catalog) (q : Query) → c ≡ tables_of (length bytes) → (b : Bool) → OfHeld bytes work c (λ P. b ≡ is_asked P q.node q.depth) → b ≡ false
-    → FromPack bytes work proof' patterns text q (Refused 12 0)
+    → FromPack bytes work proof' patterns text q (Err (record { code = 12; place = 0 }))
 unfolding pack_searched
 pack_wrong bytes work proof' patterns text c q e b A t P f R = (tt, sym (rw (sym (A P (reads_there bytes work c e P R) (parsed_proper bytes P f)) ∙ t, pack_searched)))
 
 -- where work is as long as it was
-pub pack_as : (bytes work proof' : List ℕ) (patterns text n : ℕ) (q : Query) (P : Pack) (r : Sought) → length work ≡ n → Comes proof' (pack_searched (lent_by bytes work patterns text) P q.node q.depth q.name) r
+pub pack_as : (bytes work proof' : List ℕ) (patterns text n : ℕ) (q : Query) (P : Pack) (r : Result (ℕ × ℕ) Answer) → length work ≡ n → Comes proof' (pack_searched (lent_by bytes work patterns text) P q.node q.depth q.name) r
     → Comes proof' (pack_searched (lent_to (length bytes) n patterns text) P q.node q.depth q.name) r
 pack_as bytes work proof' patterns text n q P r e C = subst (λ (k : ℕ). Comes proof' (pack_searched (lent_to (length bytes) k patterns text) P q.node q.depth q.name) r) e C

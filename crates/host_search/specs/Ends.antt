@@ -1,4 +1,5 @@
 -- What code holds of what the call came to, and the laws of opening and leaving.
+use Rattle.std.specs.Prelude.{Result, Ok, Err}
 use Rattle.std.specs.Prelude.{◌≡◌, refl, List, ℕ, ◌+◌, ◌≤◌, length, take, replicate}
 use Rattle.std.proofs.Common.{sym, ap, ◌∙◌, length-take-le}
 use Rattle.std.proofs.Math.Option.{none, some}
@@ -8,43 +9,41 @@ use Rattle.definition.specs.Parse.{parse}
 use Rattle.definition.specs.Answer.{Lent, answer_of, answer, lengths, padded}
 use Rattle.definition.specs.declared.Answer.{Answer}
 use Rattle.definition.specs.declared.Refusal.{Refusal}
-use Rattle.buffer.specs.Zero.{zeroed}
+use Rattle.buffer.specs.Zero.{filled, zeroed}
 use Rattle.dock_call.specs.Opening.{opening_refusal, pack_opened}
 use Rattle.emit_state.specs.declared.standing.Proved.{Proved}
 use Rattle.emit_state.specs.declared.standing.Proved.TheVariants.{Line, Fails, Refused as NoRoom}
-use Rattle.host_search.specs.declared.answer.Sought.{Sought}
-use Rattle.host_search.specs.declared.answer.Sought.TheVariants.{Told, Refused}
 use Rattle.host_search.specs.declared.answer.Searched.{Searched}
 use Rattle.host_search.specs.Came.{Came, told, refused, Left, said, text_left, leaves, opened}
 
 -- the text ends in its buffer
-abbrev pub Ends : List ℕ → Sought → Type 0
-Ends proof (Told n text) = text ≤ length proof
-Ends proof (Refused code place) = Unit {0}
+abbrev pub Ends : List ℕ → Result (ℕ × ℕ) Answer → Type 0
+Ends proof (Ok (n, text)) = text ≤ length proof
+Ends proof (Err a) = Unit {0}
 
 -- what the call came to
-abbrev pub came_of : List ℕ → Sought → Came
-came_of proof (Told n text) = told n (take text proof)
-came_of proof (Refused code place) = refused code place
+abbrev pub came_of : List ℕ → Result (ℕ × ℕ) Answer → Came
+came_of proof (Ok (n, text)) = told n (take text proof)
+came_of proof (Err a) = refused a.code a.place
 
 -- it is what it must be
-abbrev pub Comes : List ℕ → Came → Sought → Type 0
+abbrev pub Comes : List ℕ → Came → Result (ℕ × ℕ) Answer → Type 0
 Comes proof came s = Ends proof s × (came_of proof s ≡ came)
 
 -- a refusal by the table of all calls
-abbrev pub refused_by : Refusal → Sought
-refused_by r = Refused (answer_of r).code (answer_of r).place
+abbrev pub refused_by : Refusal → Result (ℕ × ℕ) Answer
+refused_by r = Err (answer_of r)
 
 -- what a search in code comes to, as it is told
-abbrev pub sought_of : Proved → Sought
-sought_of (Line t n) = Told (n + 1) t.text
-sought_of (Fails t) = Told 0 t.text
+abbrev pub sought_of : Proved → Result (ℕ × ℕ) Answer
+sought_of (Line t n) = Ok ((n + 1), t.text)
+sought_of (Fails t) = Ok (0, t.text)
 sought_of (NoRoom x) = refused_by x
 
 -- a refusal's number and place as they are answered
-pub refused_as : (r : Refusal) (a : Answer) → a ≡ answer (some r) → Refused a.code a.place ≡ refused_by r
+pub refused_as : (r : Refusal) (a : Answer) → a ≡ answer (some r) → Err a ≡ refused_by r
 unfolding answer
-refused_as r a e = ap (λ (x : Answer). Refused x.code x.place) e
+refused_as r a e = ap (λ (x : Answer). Err x) e
 
 -- ---- leaving
 -- the answer and the text are told
@@ -53,7 +52,7 @@ Tells came r proof room = (r ≡ said came) × (proof ≡ text_left came room)
 
 -- zeros behind a text
 text_padded : (n : ℕ) (xs : List ℕ) → n ≤ length xs → zeroed n xs ≡ padded (length xs) (take n xs)
-unfolding zeroed padded
+unfolding filled padded
 text_padded n xs h = rw (length-take-le n xs h)
 
 -- a text is told
@@ -67,7 +66,7 @@ unfolding said text_left
 told-refused code place room proof' e = (refl, e)
 
 -- so is what the call came to
-pub tell_as : (proof : List ℕ) (s t : Sought) (r : Searched) (proof' : List ℕ) (room : ℕ) → s ≡ t → Tells (came_of proof t) r proof' room → Tells (came_of proof s) r proof' room
+pub tell_as : (proof : List ℕ) (s t : Result (ℕ × ℕ) Answer) (r : Searched) (proof' : List ℕ) (room : ℕ) → s ≡ t → Tells (came_of proof t) r proof' room → Tells (came_of proof s) r proof' room
 tell_as proof s t r proof' room e T = rw e T
 
 -- with zeros for work and patterns it is what is left
@@ -77,7 +76,7 @@ unfolding leaves
 left-told came r work' patterns' proof' a b c T y z = λ x. record { answer = T.0 x; work = y x; patterns = z x; proof = T.1 x }
 
 -- and it is left where the lengths are as they were
-pub left_as : (came : Came) (work patterns proof : List ℕ) (s : Sought) (a b c : ℕ) → Comes proof came s → length work ≡ a → length patterns ≡ b → length proof ≡ c
+pub left_as : (came : Came) (work patterns proof : List ℕ) (s : Result (ℕ × ℕ) Answer) (a b c : ℕ) → Comes proof came s → length work ≡ a → length patterns ≡ b → length proof ≡ c
     → leaves (came_of proof s) (length work) (length patterns) (length proof) ≡ leaves came a b c
 left_as came work patterns proof s a b c C l m n = rw (l, m, n) (ap (λ (x : Came). leaves x a b c) C.1)
 
@@ -88,10 +87,10 @@ unfolding opened
 opened-refused l pack proof f r e = (tt, sym (rw (e, opened)))
 
 -- the pack is read
-pub opened_read : (l : Lent) (pack proof : List ℕ) (f : Lent → Pack → Came) (P : Pack) (s : Sought) → lengths l ≡ none → parse pack ≡ fine P → Comes proof (f l P) s → Comes proof (opened l pack f) s
+pub opened_read : (l : Lent) (pack proof : List ℕ) (f : Lent → Pack → Came) (P : Pack) (s : Result (ℕ × ℕ) Answer) → lengths l ≡ none → parse pack ≡ fine P → Comes proof (f l P) s → Comes proof (opened l pack f) s
 unfolding opened
 opened_read l pack proof f P s n p C = (C.0, C.1 ∙ rw (pack_opened l pack (sym n) P p, opened, p))
 
 -- the same by another name
-pub comes_as : (proof : List ℕ) (came : Came) (s t : Sought) → s ≡ t → Comes proof came t → Comes proof came s
+pub comes_as : (proof : List ℕ) (came : Came) (s t : Result (ℕ × ℕ) Answer) → s ≡ t → Comes proof came t → Comes proof came s
 comes_as proof came s t e C = rw e C

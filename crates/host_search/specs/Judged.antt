@@ -1,4 +1,5 @@
 -- The patterns that the search begins with: what code answers of them, and that they are a sound beginning.
+use Rattle.std.specs.Prelude.{Option, Some, None}
 use Rattle.std.specs.Prelude.{◌≡◌, refl, ℕ, ◌<◌}
 use Rattle.std.proofs.Common.{sym, subst, ◌∙◌, arith}
 use Rattle.std.proofs.Math.Path.{ap}
@@ -16,8 +17,6 @@ use Rattle.base.specs.Outside.{outside_then}
 use Rattle.store.specs.Stored.{nodes}
 use Rattle.store.specs.Words.{node_with}
 use Rattle.store.specs.declared.nodes.Store.{Store}
-use Rattle.store.specs.declared.nodes.Interned.{Interned}
-use Rattle.store.specs.declared.nodes.Interned.TheVariants.{Id, Short}
 use Rattle.base.specs.declared.id.Pattern.{Pattern}
 use Rattle.pack_tables.specs.declared.catalog.Catalog.{Catalog}
 use Rattle.pack_read.specs.Held.{Proper, OfHeld, reads_on}
@@ -40,12 +39,12 @@ abbrev pub eigen_key : List ℕ
 eigen_key = variable_head ∷ eigen_number ∷ 0 ∷ []
 
 -- what `intern_judgment` answers: the definition's number and store; or short, when its words are more than there are
-abbrev pub Judges : List ℕ → List ℕ → List ℕ → List ℕ → List ℕ → Catalog → Lifted → ℕ → Interned → Type 0
-Judges bytes work words work' words' c l n (Id p st) =
+abbrev pub Judges : List ℕ → List ℕ → List ℕ → List ℕ → List ℕ → Catalog → Lifted → ℕ → Option (Pattern × Store) → Type 0
+Judges bytes work words work' words' c l n (Some (p, st)) =
     Lifts bytes work' words' c l st
     × OfHeld bytes work c (λ P. judged P n ≡ stored p.0 (nodes words' st))
     × Apart work work' l
-Judges bytes work words work' words' c l n Short = OfHeld bytes work c (λ P. length words < length (pattern_words (judged P n).store))
+Judges bytes work words work' words' c l n None = OfHeld bytes work c (λ P. length words < length (pattern_words (judged P n).store))
 
 module _ (bytes work words : List ℕ) (c : Catalog) (l : Lifted) (st : Store) (L : Lifts bytes work words c l st) (empty : nodes words st ≡ []) (n : ℕ) where
   -- L is new
@@ -54,13 +53,13 @@ module _ (bytes work words : List ℕ) (c : Catalog) (l : Lifted) (st : Store) (
   first x e = ap (λ (s : List Node). intern s (variable_node eigen_number 0)) (sym empty) ∙ e
 
   -- there is no room for L
-  pub eigen_short : (work' words' : List ℕ) → Interns work words work' words' l st eigen_key Short → Judges bytes work words work' words' c l n Short
+  pub eigen_short : (work' words' : List ℕ) → Interns work words work' words' l st eigen_key None → Judges bytes work words work' words' c l n None
   unfolding node_with judged
   eigen_short work' words' A P R Q =
       let e = ap (λ (x : Kept). length (pattern_words x.store)) (first _ refl) in
       omega (arith, A.0, e, words-grow eigen.store (judged P n).store (lifted (tree_of P n) eigen.store).grows)
 
-  module _ (mid mids : List ℕ) (p : Pattern) (st₁ : Store) (A : Interns work words mid mids l st eigen_key (Id p st₁)) where
+  module _ (mid mids : List ℕ) (p : Pattern) (st₁ : Store) (A : Interns work words mid mids l st eigen_key (Some (p, st₁))) where
     -- what was lifted still is
     pub eigen_lifts : Lifts bytes mid mids c l st₁
     eigen_lifts = A.0 bytes c L
@@ -70,15 +69,15 @@ module _ (bytes work words : List ℕ) (c : Catalog) (l : Lifted) (st : Store) (
     eigen_store = ap (λ (x : Kept). x.store) (first _ A.1)
 
     -- the judgment's pattern, or that there is no room for it
-    pub judges : (work' words' : List ℕ) (r : Interned) → length mids ≡ length words → Answers bytes mid mids work' words' c l st₁ n r → Judges bytes work words work' words' c l n r
+    pub judges : (work' words' : List ℕ) (r : Option (Pattern × Store)) → length mids ≡ length words → Answers bytes mid mids work' words' c l st₁ n r → Judges bytes work words work' words' c l n r
     unfolding judged
-    judges work' words' (Id q st₂) long B =
+    judges work' words' (Some (q, st₂)) long B =
         let S = laid_same bytes work words c l st L.laid mid A.3.long A.3.ahead in (
           B.0,
           (λ P R Q. ap (lift (tree_of P n)) eigen_store ∙ B.1 P (reads_on bytes work mid c S L.laid.held.cataloged P R) Q),
           outside_then l.at l.end work mid work' A.3 B.3,
         )
-    judges work' words' Short long B = λ P R Q.
+    judges work' words' None long B = λ P R Q.
         let S = laid_same bytes work words c l st L.laid mid A.3.long A.3.ahead in
         let e = ap (λ (s : List Node). length (pattern_words (lift (tree_of P n) s).store)) eigen_store in
         omega (arith, long, e, B.0 P (reads_on bytes work mid c S L.laid.held.cataloged P R) Q)

@@ -1,11 +1,10 @@
 // What the call came to, and its answer with the buffers cleared.
 ghost use Rattle.std.specs.Prelude.{◌≡◌, ◌≤◌, length, take};
 ghost use Rattle.host_search.specs.Came.{told, refused, Left, leaves};
-ghost use Rattle.host_search.specs.Ends.{Ends, came_of, Tells, refused_by, sought_of};
+ghost use Rattle.host_search.specs.Ends.{Ends, came_of, Tells, sought_of};
 
-use buffer::zero::{zero_bytes, zero_bytes_from, zero_words};
-use definition::Refusal;
-use dock_call::answer::{Outcome, outcome_answer};
+use buffer::zero::fill_from;
+use definition::Answer;
 use emit_state::standing::Proved;
 
 // The answer: 0 and 0 with a line's number and one, or 0 for none, and the text's length; or a refusal's number and place, with 0 and 0.
@@ -23,29 +22,14 @@ impl Searched {
     pub const WRONG: u64 = 12;
 }
 
-// A line's number and one, or 0, with the text's end; or a refusal's number and place.
-#[derive(Clone, Copy)]
-pub enum Sought {
-    Told(u64, usize),
-    Refused(u64, u64),
-}
-
-// A refusal by the table of all calls.
-pub fn refuse(r: Refusal) -> Sought
-    ensures { result ≡ refused_by r }
-{
-    let a = outcome_answer(Outcome::Refused(r));
-    Sought::Refused(a.code, a.place)
-}
-
-// What a search comes to, as it is told.
-pub fn seek(p: Proved) -> Sought
+// What a search comes to, as it is told: a line's number and one, or 0 for none, and where the text ends.
+pub fn seek(p: Proved) -> Result<(u64, usize), Answer>
     ensures { result ≡ sought_of p }
 {
     match p {
-        Proved::Line(t, n) => Sought::Told(n as u64 + 1, t.text),
-        Proved::Fails(t) => Sought::Told(0, t.text),
-        Proved::Refused(x) => refuse(x),
+        Proved::Line(t, n) => Ok((n as u64 + 1, t.text)),
+        Proved::Fails(t) => Ok((0, t.text)),
+        Proved::Refused(x) => Err(Answer::from(x)),
     }
 }
 
@@ -54,7 +38,7 @@ fn finish(line: u64, text: usize, proof: &mut [u8]) -> Searched
     requires { text ≤ length proof.old }
     ensures { Tells (told line (take text proof.old)) result proof.new (length proof.old) }
 {
-    zero_bytes_from(proof, text);
+    fill_from(proof, text, 0);
     Searched {
         code: 0,
         place: 0,
@@ -67,7 +51,7 @@ fn finish(line: u64, text: usize, proof: &mut [u8]) -> Searched
 fn deny(code: u64, place: u64, proof: &mut [u8]) -> Searched
     ensures { Tells (refused code place) result proof.new (length proof.old) }
 {
-    zero_bytes(proof);
+    proof.fill(0);
     Searched {
         code: code,
         place: place,
@@ -77,23 +61,28 @@ fn deny(code: u64, place: u64, proof: &mut [u8]) -> Searched
 }
 
 // The answer, with the text as the call leaves it.
-fn tell(s: Sought, proof: &mut [u8]) -> Searched
+fn tell(s: Result<(u64, usize), Answer>, proof: &mut [u8]) -> Searched
     requires { Ends proof.old s }
     ensures { Tells (came_of proof.old s) result proof.new (length proof.old) }
 {
     match s {
-        Sought::Told(line, text) => finish(line, text, proof),
-        Sought::Refused(code, place) => deny(code, place, proof),
+        Ok((line, text)) => finish(line, text, proof),
+        Err(a) => deny(a.code, a.place, proof),
     }
 }
 
 // The answer, with all buffers as the call leaves them.
-pub fn leave(s: Sought, work: &mut [u32], patterns: &mut [u32], proof: &mut [u8]) -> Searched
+pub fn leave(
+    s: Result<(u64, usize), Answer>,
+    work: &mut [u32],
+    patterns: &mut [u32],
+    proof: &mut [u8],
+) -> Searched
     requires { Ends proof.old s }
     ensures { ◌≡◌ {A = Left} (record { answer = result; work = work.new; patterns = patterns.new; proof = proof.new }) (leaves (came_of proof.old s) (length work.old) (length patterns.old) (length proof.old)) }
 {
     let answer = tell(s, proof);
-    zero_words(patterns);
-    zero_words(work);
+    patterns.fill(0);
+    work.fill(0);
     answer
 }

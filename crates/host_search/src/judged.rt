@@ -7,7 +7,7 @@ ghost use Rattle.host_search.specs.Judged.{eigen_key, Judges};
 
 use base::id::{Ground, Pattern};
 use pack_tables::catalog::Catalog;
-use store::nodes::{Interned, Store};
+use store::nodes::Store;
 use term_lift::intern::intern_key;
 use term_lift::lift::{Lifted, lift};
 
@@ -21,8 +21,13 @@ impl Eigen {
     pub const SORT: u32 = 0;
 }
 
-// L's pattern.
-fn intern_eigen(work: &mut [u32], words: &mut [u32], l: Lifted, st: Store) -> Interned
+// L's pattern, and the store that has it; none where there is no room.
+fn intern_eigen(
+    work: &mut [u32],
+    words: &mut [u32],
+    l: Lifted,
+    st: Store,
+) -> Option<(Pattern, Store)>
     requires { Indexed work.old words.old l st }
     ensures { Interns work.old words.old work.new words.new l st eigen_key result }
 {
@@ -30,7 +35,7 @@ fn intern_eigen(work: &mut [u32], words: &mut [u32], l: Lifted, st: Store) -> In
     intern_key(work, words, l, st, &key)
 }
 
-// L's pattern, and behind it that of ground node `n`.
+// L's pattern, and behind it that of ground node `n`; none where there is no room.
 pub fn intern_judgment(
     pack: &[u8],
     work: &mut [u32],
@@ -39,12 +44,10 @@ pub fn intern_judgment(
     l: Lifted,
     empty: Store,
     n: Ground,
-) -> Interned
+) -> Option<(Pattern, Store)>
     requires { Lifts pack.now work.old words.old c l empty × (nodes words.old empty ≡ []) × (n.0 < l.nodes) }
     ensures { Judges pack.now work.old words.old work.new words.new c l n.0 result }
 {
-    match intern_eigen(work, words, l, empty) {
-        Interned::Id(_, st) => lift(pack, work, words, c, l, st, n),
-        Interned::Short => Interned::Short,
-    }
+    let (_, st) = intern_eigen(work, words, l, empty)?;
+    lift(pack, work, words, c, l, st, n)
 }

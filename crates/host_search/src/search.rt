@@ -7,12 +7,11 @@ ghost use Rattle.host_search.specs.Begun.{Beginning, BegunFrom};
 ghost use Rattle.host_search.specs.Opened.{places_for, Low, Opened, Asking};
 ghost use Rattle.host_search.specs.Calls.{FromNode, FromPack};
 
-use crate::answer::{Searched, Sought, leave, refuse, seek};
+use crate::answer::{Searched, leave, seek};
 use crate::asked::{Query, is_asked};
 use crate::judged::intern_judgment;
 use base::id::Ground;
-use definition::{Buffer, Refusal};
-use dock_call::answer::Outcome;
+use definition::{Answer, Buffer, Refusal};
 use dock_call::lent::Lent;
 use dock_call::opening::open_pack;
 use emit_lines::word::Hand;
@@ -22,7 +21,7 @@ use emit_state::places::Places;
 use host_walk::place::{lifting, open_store};
 use pack_reader::read::tables;
 use pack_tables::catalog::Catalog;
-use store::nodes::{Interned, Store};
+use store::nodes::Store;
 use term_lift::lift::Lifted;
 
 // Where the search has its words: behind those of lifting, whose index is the store's.
@@ -51,7 +50,7 @@ fn search_from(
     st: Store,
     j: u32,
     q: Query,
-) -> Sought
+) -> Result<(u64, usize), Answer>
     requires { Beginning pack.now work.old words.old (length proof.old) l st j q }
     ensures { BegunFrom pack.now work.old words.old proof.new (length proof.old) l st j q result }
 {
@@ -68,19 +67,17 @@ fn search_node(
     proof: &mut [u8],
     c: Catalog,
     q: Query,
-) -> Sought
+) -> Result<(u64, usize), Answer>
     requires { Asking pack.now work.old (length words.old) (length proof.old) c q }
     ensures { FromNode pack.now work.old proof.new (length words.old) (length proof.old) c q result }
 {
     let l = lifting(work, words, c);
     let empty = open_store(pack, work, words, c, l);
-    match intern_judgment(pack, work, words, c, l, empty, Ground(q.node)) {
-        Interned::Id(j, st) => {
-            let places = places_for(words, c, l, q.name);
-            search_from(pack, work, words, proof, places, st, j.0, q)
-        }
-        Interned::Short => refuse(Refusal::Short(Buffer::PATTERN)),
-    }
+    let Some((j, st)) = intern_judgment(pack, work, words, c, l, empty, Ground(q.node)) else {
+        return Err(Answer::from(Refusal::Short(Buffer::PATTERN)));
+    };
+    let places = places_for(words, c, l, q.name);
+    search_from(pack, work, words, proof, places, st, j.0, q)
 }
 
 // The same of what may not be there.
@@ -90,7 +87,7 @@ fn search_opened(
     words: &mut [u32],
     proof: &mut [u8],
     q: Query,
-) -> Sought
+) -> Result<(u64, usize), Answer>
     requires { Opened pack.now work.old (length words.old) (length proof.old) }
     ensures { FromPack pack.now work.old proof.new (length words.old) (length proof.old) q result }
 {
@@ -98,7 +95,10 @@ fn search_opened(
     if is_asked(pack, work, c, q) {
         return search_node(pack, work, words, proof, c, q);
     }
-    Sought::Refused(Searched::WRONG, 0)
+    Err(Answer {
+        code: Searched::WRONG,
+        place: 0,
+    })
 }
 
 // The lengths tested, the pack read, and the judgment searched for.
@@ -108,7 +108,7 @@ fn search_pack(
     patterns: &mut [u32],
     proof: &mut [u8],
     q: Query,
-) -> Sought
+) -> Result<(u64, usize), Answer>
     ensures { Comes proof.new (opened (lent_to (length pack.now) (length work.old) (length patterns.old) (length proof.old)) pack.now (λ l P. pack_searched l P q.node q.depth q.name)) result }
 {
     let lent = Lent {
@@ -120,10 +120,8 @@ fn search_pack(
         text: proof.len(),
         goals: 0,
     };
-    match open_pack(lent, pack, work) {
-        Outcome::Done => search_opened(pack, work, patterns, proof, q),
-        Outcome::Refused(r) => refuse(r),
-    }
+    open_pack(lent, pack, work)?;
+    search_opened(pack, work, patterns, proof, q)
 }
 
 // A proof of ground node `node`, a judgment, is searched for at a depth, without classes: L, with so many underscores to its name, is the

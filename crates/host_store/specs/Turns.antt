@@ -1,4 +1,5 @@
 -- What the functions owe to each other, and the laws of a turn: what is left of the run gives the whole.
+use Rattle.std.specs.Prelude.{Option, Some, None}
 use Rattle.std.specs.Prelude.{◌≡◌, refl, true, false, ℕ, zero, suc, ◌+◌, ◌-◌, ◌*◌, ◌/◌, ◌≤◌, ◌<◌, min, leb, ltb, get_or, drop, set, replicate}
 use Rattle.std.proofs.Math.Path.{sym, ap}
 use Rattle.std.proofs.Common.{ap₂, ◌∙◌, lt-ltb, le-ltb, le-leb, leb-true, leb-false, ltb-false, length-drop, length-take, drop_of_length-le, take_all, drop-cons, drop-drop, length-take-le}
@@ -14,14 +15,12 @@ use Rattle.definition.specs.Test.{is, see, never}
 use Rattle.definition.specs.Pack.{Node}
 use Rattle.definition.specs.Store.{place_of, intern, pattern_words, nodes_in, nothing}
 use Rattle.definition.specs.Answer.{padded, padded-none}
-use Rattle.buffer.specs.Zero.{zeroed}
+use Rattle.buffer.specs.Zero.{filled, zeroed}
 use Rattle.store.specs.Words.{node_with, length_more, begins_take, begins_long}
 use Rattle.store.specs.Stored.{Stored, Enough, nodes}
 use Rattle.store.specs.declared.nodes.Store.{Store}
 use Rattle.host_store.specs.declared.Turn.{Turn}
 use Rattle.host_store.specs.declared.Turn.TheVariants.{Next, End, Full}
-use Rattle.host_store.specs.declared.Run.{Run}
-use Rattle.host_store.specs.declared.Run.TheVariants.{Done, Short}
 use Rattle.host_store.specs.Tried.{All, intern_all, Left, leaves, refused, unfit, ended, tried}
 
 -- ---- reading
@@ -122,15 +121,15 @@ pub record Whole (from numbers : List ℕ) (s : List Node) (n : ℕ) : Type 0 wh
   pub store_is : s ≡ (whole from (length numbers)).store
 
 -- what is left after the run
-abbrev pub Ran : List ℕ → List ℕ → List ℕ → List ℕ → Run → Type 0
-Ran from index words numbers (Done st n) = Stored index words st × Whole from numbers (nodes words st) n
-Ran from index words numbers Short = length words < length (pattern_words (whole from (length numbers)).store)
+abbrev pub Ran : List ℕ → List ℕ → List ℕ → List ℕ → Option (Store × ℕ) → Type 0
+Ran from index words numbers (Some (st, n)) = Stored index words st × Whole from numbers (nodes words st) n
+Ran from index words numbers None = length words < length (pattern_words (whole from (length numbers)).store)
 
 -- and after a turn
 abbrev pub Turned : List ℕ → List ℕ → List ℕ → List ℕ → Store → ℕ → Turn → Type 0
 Turned from index words numbers st i (Next st' end) = Stored index words st' × Halfway from numbers (nodes words st') end (i + 1)
-Turned from index words numbers st i End = Ran from index words numbers (Done st i)
-Turned from index words numbers st i Full = Ran from index words numbers Short
+Turned from index words numbers st i End = Ran from index words numbers (Some (st, i))
+Turned from index words numbers st i Full = Ran from index words numbers None
 
 -- ---- turns
 pub begun : (from numbers : List ℕ) → Halfway from numbers [] 0 0
@@ -216,7 +215,7 @@ cleared code index words numbers index' words' numbers' i w n =
 
 -- zeros behind the first n
 padded-first : (n : ℕ) (xs : List ℕ) → n ≤ length xs → zeroed n xs ≡ padded (length xs) (take n xs)
-unfolding zeroed padded
+unfolding filled padded
 padded-first n xs h = rw (length-take-le n xs h)
 
 pub finished : (index words numbers : List ℕ) (st : Store) (n : ℕ) → Stored index words st → n ≤ length numbers → (nodes-len used : ℕ) → nodes-len ≡ length (nodes words st) → used ≡ length (pattern_words (nodes words st))
@@ -240,14 +239,14 @@ unfolding tried whole
 tried_fit from index words numbers e = rw (e, tried)
 
 module _ (from : List ℕ) (index words numbers : ℕ) (fits : unfit index words ≡ false) (index' words' numbers' : List ℕ) (i : length index' ≡ index) (w : length words' ≡ words) (n : length numbers' ≡ numbers) where
-  pub tried_short : Ran from index' words' numbers' Short → refused 8 (length index') (length words') (length numbers') ≡ tried from index words numbers
+  pub tried_short : Ran from index' words' numbers' None → refused 8 (length index') (length words') (length numbers') ≡ tried from index words numbers
   unfolding ended
   tried_short h =
       let more : words < length (pattern_words (whole from numbers).store) = rw (w, n) at h in
       let e : refused 8 index words numbers ≡ ended (whole from numbers) index words numbers = rw (lt-ltb _ _ more, ended) in
       rw (i, w, n) (e ∙ tried_fit from index words numbers fits)
 
-  pub tried-done : (st : Store) (k : ℕ) → Ran from index' words' numbers' (Done st k)
+  pub tried-done : (st : Store) (k : ℕ) → Ran from index' words' numbers' (Some (st, k))
       → leaves 0 (length (nodes words' st)) (pattern_words (nodes words' st)) (take k numbers') (length index') (length words') (length numbers') ≡ tried from index words numbers
   unfolding ended
   tried-done st k R =

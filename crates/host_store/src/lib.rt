@@ -8,8 +8,8 @@ ghost use Rattle.host_store.specs.Tried.{Left, leaves, refused, unfit, tried};
 ghost use Rattle.host_store.specs.Turns.{end_of, Halfway, Turned, Ran};
 
 use base::id::Pattern;
-use buffer::zero::{zero_words, zero_words_from};
-use store::nodes::{Interned, Store};
+use buffer::zero::fill_from;
+use store::nodes::Store;
 
 // The answer: 0 done, 2 lengths that do not fit, 8 short; and how many nodes the store has, 0 unless done.
 #[repr(C)]
@@ -25,13 +25,6 @@ enum Turn {
     Next(Store, usize),
     End,
     Full,
-}
-
-// After all turns: the store and how many numbers are written, or there was no room.
-#[derive(Clone, Copy)]
-enum Run {
-    Done(Store, usize),
-    Short,
 }
 
 // Whether the lengths do not fit each other.
@@ -74,16 +67,22 @@ fn intern_one(
     }
     let end = node_end(from, at);
     match st.intern(index, words, &from[at + 1..end]) {
-        Interned::Id(p, next) => {
+        Some((p, next)) => {
             numbers[i] = p.0;
             Turn::Next(next, end)
         }
-        Interned::Short => Turn::Full,
+        None => Turn::Full,
     }
 }
 
-// A new store, and a turn for each place in `numbers` until no node is left.
-fn intern_nodes(from: &[u32], index: &mut [u32], words: &mut [u32], numbers: &mut [u32]) -> Run
+// A new store, and a turn for each place in `numbers` until no node is left: the store, and how many nodes were interned; none where the
+// words have no room.
+fn intern_nodes(
+    from: &[u32],
+    index: &mut [u32],
+    words: &mut [u32],
+    numbers: &mut [u32],
+) -> Option<(Store, usize)>
     requires { Enough index.old words.old }
     ensures { Ran from.now index.new words.new numbers.new result }
 {
@@ -98,23 +97,23 @@ fn intern_nodes(from: &[u32], index: &mut [u32], words: &mut [u32], numbers: &mu
                 i += 1;
             }
             Turn::End => {
-                return Run::Done(st, i);
+                return Some((st, i));
             }
             Turn::Full => {
-                return Run::Short;
+                return None;
             }
         }
     }
-    Run::Done(st, i)
+    Some((st, i))
 }
 
 // Zeros all over, and the code.
 fn refuse(index: &mut [u32], words: &mut [u32], numbers: &mut [u32], code: u64) -> Tried
     ensures { ◌≡◌ {A = Left} (record { answer = result; index = index.new; words = words.new; numbers = numbers.new }) (refused code (length index.old) (length words.old) (length numbers.old)) }
 {
-    zero_words(index);
-    zero_words(words);
-    zero_words(numbers);
+    index.fill(0);
+    words.fill(0);
+    numbers.fill(0);
     Tried {
         code: code,
         nodes: 0,
@@ -126,9 +125,9 @@ fn finish(index: &mut [u32], words: &mut [u32], numbers: &mut [u32], st: Store, 
     requires { Stored index.old words.old st × (n ≤ length numbers.old) }
     ensures { ◌≡◌ {A = Left} (record { answer = result; index = index.new; words = words.new; numbers = numbers.new }) (leaves 0 (length (nodes words.old st)) (pattern_words (nodes words.old st)) (take n numbers.old) (length index.old) (length words.old) (length numbers.old)) }
 {
-    zero_words(index);
-    zero_words_from(words, st.used());
-    zero_words_from(numbers, n);
+    index.fill(0);
+    fill_from(words, st.used(), 0);
+    fill_from(numbers, n, 0);
     Tried {
         code: 0,
         nodes: st.len() as u64,
@@ -149,7 +148,7 @@ pub extern "C" fn intern_all(
         return refuse(index, words, numbers, 2);
     }
     match intern_nodes(from, index, words, numbers) {
-        Run::Done(st, n) => finish(index, words, numbers, st, n),
-        Run::Short => refuse(index, words, numbers, 8),
+        Some((st, n)) => finish(index, words, numbers, st, n),
+        None => refuse(index, words, numbers, 8),
     }
 }

@@ -1,4 +1,6 @@
 -- Answering: what the functions owe to each other, and the laws of the roots written and of what is told.
+use Rattle.std.specs.Prelude.{Ok, Err}
+use Rattle.std.specs.Prelude.{Ok, Err}
 use Rattle.std.specs.Prelude.{◌≡◌, refl, Bool, true, false, List, [], ◌∷◌, ◌++◌, ℕ, zero, suc, ◌+◌, ◌*◌, ◌-◌, ◌≤◌, ◌<◌, leb, ltb, length, drop, set, replicate}
 use Rattle.std.proofs.Math.Path.{sym}
 use Rattle.std.proofs.Common.{ap, ap₂, ◌∙◌, arith, add-one}
@@ -12,7 +14,6 @@ use Rattle.definition.specs.Store.{nothing}
 use Rattle.base.specs.Part.{put, put-none, put-more}
 use Rattle.theory.specs.Unification.Circle.{length_up_to}
 use Rattle.graph.specs.declared.graph.Graph.{Graph as Counts}
-use Rattle.graph_unify.specs.declared.unify.Outcome.TheVariants.{Joined, Clash}
 use Rattle.graph.specs.Cells.{Shows, nodes_few}
 use Rattle.graph.specs.Links.{Found}
 use Rattle.theory.specs.Unification.Inner.{Inner}
@@ -21,9 +22,9 @@ use Rattle.graph_unify.specs.Unifies.{Unifies}
 use Rattle.graph_unify.specs.Circles.{Tells}
 use Rattle.graph_unify.specs.CircleWords.{colours_end}
 use Rattle.host_unify.specs.declared.Unification.{Unification}
-use Rattle.host_unify.specs.declared.Read.TheVariants.{Whole, Broken as NoList, Full as NoRoom}
 use Rattle.host_unify.specs.Solved.{Listed, whole, broken, full, listed, Told, tells, refused, roots_to, bit, unified_at, joined_at, ended, asked, unfit, asked_of, solved, Left, leaves}
 use Rattle.host_unify.specs.Turns.{Reads}
+use Rattle.host_unify.specs.declared.Fault.TheVariants.{Broken, Full}
 
 -- ---- what is owed
 -- zeros, and a place for each root
@@ -122,7 +123,7 @@ unfolding ended
 solves_none cells work s x y stage t n z J g S I = J g S I ∙ sym (ap (λ (v : Unified). ended stage v n) (ap (λ (k : ℕ). unified_at k g x y) z ∙ unified-none g x y))
 
 -- joined, or a clash
-pub solves_joined : (cells before work : List ℕ) (s : Counts) (x y stage taken : ℕ) (t : Told) (n : ℕ) → (stage ≡ 0 → ⊥) → Unifies cells before work s x y (Joined taken) → Joins cells work s stage taken t n → Solves cells before s x y stage t n
+pub solves_joined : (cells before work : List ℕ) (s : Counts) (x y stage taken : ℕ) (t : Told) (n : ℕ) → (stage ≡ 0 → ⊥) → Unifies cells before work s x y (Ok taken) → Joins cells work s stage taken t n → Solves cells before s x y stage t n
 unfolding ended
 solves_joined cells before work s x y stage taken t n d U J g S I =
     let u = U.0 g S I in
@@ -133,7 +134,7 @@ nothing-told : (code taken : ℕ) (roots : List ℕ) → roots ≡ replicate (le
 unfolding tells
 nothing-told code taken roots z = ap (Says code taken 0) (z ∙ sym (padded-none (length roots)))
 
-pub solves_clash : (cells before work roots : List ℕ) (s : Counts) (x y stage taken : ℕ) → (stage ≡ 0 → ⊥) → Unifies cells before work s x y (Clash taken) → roots ≡ replicate (length roots) 0 → Solves cells before s x y stage (Says 1 taken 0 roots) (length roots)
+pub solves_clash : (cells before work roots : List ℕ) (s : Counts) (x y stage taken : ℕ) → (stage ≡ 0 → ⊥) → Unifies cells before work s x y (Err taken) → roots ≡ replicate (length roots) 0 → Solves cells before s x y stage (Says 1 taken 0 roots) (length roots)
 unfolding ended
 solves_clash cells before work roots s x y stage taken d U z g S I = nothing-told 1 taken roots z ∙ sym (ap (λ (v : Unified). ended stage v (length roots)) (unified_is stage g x y d ∙ U.0 g S I))
 
@@ -198,15 +199,15 @@ module _ (terms : List ℕ) (x y stage roots cells work : ℕ) (t : Told) where
     unfolding solved
     solved_is l e = rw (u, solved, sym long, e)
 
-    pub solved_broken : Reads terms cells' work' NoList → t ≡ refused 2 roots → t ≡ solved terms x y stage roots cells work
+    pub solved_broken : Reads terms cells' work' (Err Broken) → t ≡ refused 2 roots → t ≡ solved terms x y stage roots cells work
     unfolding asked_of
     solved_broken R e = e ∙ solved_is broken R
 
-    pub solved-full : Reads terms cells' work' NoRoom → t ≡ refused 3 roots → t ≡ solved terms x y stage roots cells work
+    pub solved-full : Reads terms cells' work' (Err Full) → t ≡ refused 3 roots → t ≡ solved terms x y stage roots cells work
     unfolding asked_of
     solved-full R e = e ∙ solved_is full R
 
-    pub solved-whole : (s : Counts) → Reads terms cells' work' (Whole s) → Asks cells' work' s x y stage t roots → t ≡ solved terms x y stage roots cells work
+    pub solved-whole : (s : Counts) → Reads terms cells' work' (Ok s) → Asks cells' work' s x y stage t roots → t ≡ solved terms x y stage roots cells work
     unfolding asked_of
     solved-whole s R A = A R.0 R.1 R.2 ∙ solved_is (whole R.0) R.3
 

@@ -1,4 +1,6 @@
 -- Reading: what the functions owe to each other, and the laws of a turn: what is left to read gives the whole.
+use Rattle.std.specs.Prelude.{Result, Ok, Err}
+use Rattle.std.specs.Prelude.{Some, None}
 use Rattle.std.specs.Prelude.{◌≡◌, true, false, ltb, get_or, take, drop}
 use Rattle.std.proofs.Math.Path.{refl}
 use Rattle.std.proofs.Common.{sym, ap, ◌∙◌, arith, add-one, length-drop, drop_of_length-le, drop-cons, get_or-drop}
@@ -14,16 +16,13 @@ use Rattle.definition.specs.Good.{Below}
 use Rattle.definition.specs.Graph.{Vertex, Graph, variable_vertex, applied, push, cells as cells_of}
 use Rattle.base.specs.declared.id.Node.{Node}
 use Rattle.graph.specs.declared.graph.Graph.{Graph as Counts}
-use Rattle.graph.specs.declared.graph.Pushed.TheVariants.{At, Short}
 use Rattle.graph.specs.Cells.{mark_in, Shows, cells-more}
 use Rattle.graph.specs.Pushes.{Pushes, cells_shown}
 use Rattle.theory.specs.Unification.Inner.{Inner, inner_more}
 use Rattle.graph.specs.Inner.{many-nodes}
-use Rattle.host_unify.specs.declared.Turn.{Turn}
-use Rattle.host_unify.specs.declared.Turn.TheVariants.{Next, Broken, Full}
-use Rattle.host_unify.specs.declared.Read.{Read}
-use Rattle.host_unify.specs.declared.Read.TheVariants.{Whole, Broken as NoList, Full as NoRoom}
 use Rattle.host_unify.specs.Solved.{words_of, node_of, earlier, is_node, whole, broken, full, read_nodes, listed}
+use Rattle.host_unify.specs.declared.Fault.{Fault}
+use Rattle.host_unify.specs.declared.Fault.TheVariants.{Broken, Full}
 
 -- ---- what is owed
 -- the nodes up to `at` stand in the graph, and the rest of the list gives the whole
@@ -37,16 +36,16 @@ pub record Reading (terms cells work : List ℕ) (s : Counts) (at : ℕ) : Type 
   pub left : read_nodes fuel (length cells) graph (drop at terms) ≡ listed terms (length cells)
 
 -- after a turn
-abbrev pub Turned : List ℕ → List ℕ → List ℕ → ℕ → Turn → Type 0
-Turned terms cells work at (Next s end) = Reading terms cells work s end × (at < end)
-Turned terms cells work at Broken = listed terms (length cells) ≡ broken
-Turned terms cells work at Full = listed terms (length cells) ≡ full
+abbrev pub Turned : List ℕ → List ℕ → List ℕ → ℕ → Result (Counts × ℕ) Fault → Type 0
+Turned terms cells work at (Ok (s, end)) = Reading terms cells work s end × (at < end)
+Turned terms cells work at (Err Broken) = listed terms (length cells) ≡ broken
+Turned terms cells work at (Err Full) = listed terms (length cells) ≡ full
 
 -- and after all
-abbrev pub Reads : List ℕ → List ℕ → List ℕ → Read → Type 0
-Reads terms cells work (Whole s) = (g : Graph) × Shows cells work s g × Inner g × (listed terms (length cells) ≡ whole g)
-Reads terms cells work NoList = listed terms (length cells) ≡ broken
-Reads terms cells work NoRoom = listed terms (length cells) ≡ full
+abbrev pub Reads : List ℕ → List ℕ → List ℕ → Result Counts Fault → Type 0
+Reads terms cells work (Ok s) = (g : Graph) × Shows cells work s g × Inner g × (listed terms (length cells) ≡ whole g)
+Reads terms cells work (Err Broken) = listed terms (length cells) ≡ broken
+Reads terms cells work (Err Full) = listed terms (length cells) ≡ full
 
 -- ---- earlier nodes
 -- none, one that is not, one that is, and all of them
@@ -150,7 +149,7 @@ begun terms cells work s S = record { graph = []; shows = S; inner = λ x l. abs
 
 module _ (terms cells work : List ℕ) (s : Counts) (at : ℕ) (R : Reading terms cells work s at) where
   -- behind the last
-  pub ended_there : length terms ≤ at → Reads terms cells work (Whole s)
+  pub ended_there : length terms ≤ at → Reads terms cells work (Ok s)
   ended_there h = (
     R.graph,
     R.shows,
@@ -175,12 +174,12 @@ module _ (terms cells work : List ℕ) (s : Counts) (at : ℕ) (R : Reading term
       good_there : is_node (length R.graph) (drop at terms) ≡ true
       good_there = ap (λ (n : ℕ). is_node n (drop at terms)) as_many ∙ good
 
-      pub turned_full : Pushes cells cells' work work' s v Short → listed terms (length cells') ≡ full
+      pub turned_full : Pushes cells cells' work work' s v None → listed terms (length cells') ≡ full
       turned_full P =
           let h : length cells < cells_of (R.graph ++ (node_of (drop at terms) ∷ [])) = rw v-is (omega (arith, P R.graph R.shows, cells-more R.graph v)) in
           ap (listed terms) long-cells ∙ sym left_is ∙ read_full (R.fuel - 1) (length cells) R.graph (drop at terms) some good_there h
 
-      pub turned_next : (n : Node) (s' : Counts) (end : ℕ) → Pushes cells cells' work work' s v (At n s') → end ≡ at + words_of (drop at terms) → at < end → end ≤ length terms → v.link ≡ none → earlier s.nodes v.args ≡ true → Reading terms cells' work' s' end × (at < end)
+      pub turned_next : (n : Node) (s' : Counts) (end : ℕ) → Pushes cells cells' work work' s v (Some (n, s')) → end ≡ at + words_of (drop at terms) → at < end → end ≤ length terms → v.link ≡ none → earlier s.nodes v.args ≡ true → Reading terms cells' work' s' end × (at < end)
       turned_next n s' end P e more fits bare old =
           let S = (P.0 R.graph R.shows).1 in
           let h : cells_of (R.graph ++ (node_of (drop at terms) ∷ [])) ≤ length cells = rw v-is (omega (arith, cells_shown cells' work' s' (R.graph ++ (v ∷ [])) S, S.laid.fits)) in
@@ -213,10 +212,10 @@ module _ (terms cells work : List ℕ) (s : Counts) (at : ℕ) (R : Reading term
         good_var : is_node s.nodes (drop at terms) ≡ true
         good_var = all_words terms at s.nodes (omega (arith, var_words terms at var)) ∙ ap (λ (w : Vertex). earlier s.nodes w.args) u_is ∙ earlier-none s.nodes
 
-        pub var_full : Pushes cells cells' work work' s u Short → listed terms (length cells') ≡ full
+        pub var_full : Pushes cells cells' work work' s u None → listed terms (length cells') ≡ full
         var_full P = turned_full good_var u u_is cells' work' long-cells P
 
-        pub var_next : (n : Node) (s' : Counts) → Pushes cells cells' work work' s u (At n s') → Reading terms cells' work' s' (at + 4) × (at < at + 4)
+        pub var_next : (n : Node) (s' : Counts) → Pushes cells cells' work work' s u (Some (n, s')) → Reading terms cells' work' s' (at + 4) × (at < at + 4)
         var_next n s' P = turned_next good_var u u_is cells' work' long-cells n s' (at + 4) P (omega (arith, var_words terms at var)) (omega arith) h refl (earlier-none s.nodes)
 
     -- the application there
@@ -241,8 +240,8 @@ module _ (terms cells work : List ℕ) (s : Counts) (at : ℕ) (R : Reading term
         app_late e = turned_broken (node-if ∙ e)
 
         module _ (old : earlier s.nodes args ≡ true) (cells' work' : List ℕ) (long-cells : length cells' ≡ length cells) where
-          pub app_full : Pushes cells cells' work work' s w Short → listed terms (length cells') ≡ full
+          pub app_full : Pushes cells cells' work work' s w None → listed terms (length cells') ≡ full
           app_full P = turned_full (node-if ∙ old) w w_is cells' work' long-cells P
 
-          pub app_next : (n : Node) (s' : Counts) → Pushes cells cells' work work' s w (At n s') → Reading terms cells' work' s' end × (at < end)
+          pub app_next : (n : Node) (s' : Counts) → Pushes cells cells' work work' s w (Some (n, s')) → Reading terms cells' work' s' end × (at < end)
           app_next n s' P = turned_next (node-if ∙ old) w w_is cells' work' long-cells n s' end P (omega (arith, app_words terms at app)) (omega arith) h refl old

@@ -6,17 +6,17 @@ ghost use Rattle.definition.specs.Store.{variable_head, nothing};
 ghost use Rattle.graph.specs.Links.{Holds};
 ghost use Rattle.graph.specs.Inner.{HoldsInner};
 ghost use Rattle.graph_unify.specs.CircleWords.{colours_end};
-ghost use Rattle.host_unify.specs.Solved.{Told, Left, earlier, unfit, bit, solved, leaves};
+ghost use Rattle.host_unify.specs.Solved.{Told, Left, unfit, bit, solved, leaves};
 ghost use Rattle.host_unify.specs.Turns.{Reading, Turned, Reads};
 ghost use Rattle.host_unify.specs.Tells.{Roots, Writes, Joins, Solves, Asks};
 
+use base::below::all_below;
 use base::id::{Node, Pattern};
 use base::limit::Limit;
-use buffer::zero::zero_words;
-use graph::graph::{Graph, Pushed};
+use graph::graph::Graph;
 use graph::places::values_at;
 use graph_unify::circle::circular;
-use graph_unify::unify::{Outcome, unify};
+use graph_unify::unify::unify;
 
 // The answer: 0 joined, 1 a clash, 2 no such list or no such node, 3 lengths that do not fit; how many pairs were taken, and 1 if there is a circle.
 #[repr(C)]
@@ -27,18 +27,9 @@ pub struct Unification {
     pub circular: u64,
 }
 
-// After a turn: the graph with a node more and where that node ends, or the words there are no node, or there is no room for it.
+// Why a list of nodes is not read: words of it are no node, or the cells have no room for one.
 #[derive(Clone, Copy)]
-enum Turn {
-    Next(Graph, usize),
-    Broken,
-    Full,
-}
-
-// After all turns: the graph, or what stopped them.
-#[derive(Clone, Copy)]
-enum Read {
-    Whole(Graph),
+enum Fault {
     Broken,
     Full,
 }
@@ -53,59 +44,63 @@ fn lengths_unfit(cells: &[u32], work: usize) -> bool
     work < values_at(cells)
 }
 
-// Whether each argument is among `n` earlier nodes.
-fn all_earlier(args: &[u32], n: usize) -> bool
-    ensures { result ≡ earlier n args.now }
-{
-    let mut i = 0;
-    while i < args.len() {
-        if n <= args[i] as usize {
-            return false;
-        }
-        i += 1;
-    }
-    true
-}
-
-// The variable at `at` becomes a node more.
-fn read_var(terms: &[u32], cells: &mut [u32], work: &mut [u32], g: Graph, at: usize) -> Turn
+// The variable at `at` becomes a node more: the graph then, and where the variable ends.
+fn read_var(
+    terms: &[u32],
+    cells: &mut [u32],
+    work: &mut [u32],
+    g: Graph,
+    at: usize,
+) -> Result<(Graph, usize), Fault>
     requires { Reading terms.now cells.old work.old g at × (at < length terms.now) × (get_or terms.now at 0 ≡ variable_head) }
     ensures { Turned terms.now cells.new work.new at result }
 {
     if terms.len() - at < 4 {
-        return Turn::Broken;
+        return Err(Fault::Broken);
     }
-    match g.var(cells, work, terms[at + 1], terms[at + 2], terms[at + 3]) {
-        Pushed::At(x, h) => Turn::Next(h, at + 4),
-        Pushed::Short => Turn::Full,
-    }
+    let Some((_, h)) = g.var(cells, work, terms[at + 1], terms[at + 2], terms[at + 3]) else {
+        return Err(Fault::Full);
+    };
+    Ok((h, at + 4))
 }
 
-// The application at `at` becomes a node more.
-fn read_app(terms: &[u32], cells: &mut [u32], work: &mut [u32], g: Graph, at: usize) -> Turn
+// The application at `at` becomes a node more: the graph then, and where the application ends.
+fn read_app(
+    terms: &[u32],
+    cells: &mut [u32],
+    work: &mut [u32],
+    g: Graph,
+    at: usize,
+) -> Result<(Graph, usize), Fault>
     requires { Reading terms.now cells.old work.old g at × (at < length terms.now) × (get_or terms.now at 0 ≡ variable_head → ⊥) }
     ensures { Turned terms.now cells.new work.new at result }
 {
     if terms.len() - at < 2 {
-        return Turn::Broken;
+        return Err(Fault::Broken);
     }
     let n = terms[at + 1] as usize;
     if terms.len() - (at + 2) < n {
-        return Turn::Broken;
+        return Err(Fault::Broken);
     }
     let start = at + 2;
     let end = start + n;
-    if all_earlier(&terms[start..end], g.nodes) {
-        return match g.push(cells, work, terms[at], &terms[start..end]) {
-            Pushed::At(x, h) => Turn::Next(h, end),
-            Pushed::Short => Turn::Full,
-        };
+    if !all_below(&terms[start..end], g.nodes) {
+        return Err(Fault::Broken);
     }
-    Turn::Broken
+    let Some((_, h)) = g.push(cells, work, terms[at], &terms[start..end]) else {
+        return Err(Fault::Full);
+    };
+    Ok((h, end))
 }
 
 // The node at `at` becomes one of the graph.
-fn read_node(terms: &[u32], cells: &mut [u32], work: &mut [u32], g: Graph, at: usize) -> Turn
+fn read_node(
+    terms: &[u32],
+    cells: &mut [u32],
+    work: &mut [u32],
+    g: Graph,
+    at: usize,
+) -> Result<(Graph, usize), Fault>
     requires { Reading terms.now cells.old work.old g at × (at < length terms.now) }
     ensures { Turned terms.now cells.new work.new at result }
 {
@@ -116,27 +111,18 @@ fn read_node(terms: &[u32], cells: &mut [u32], work: &mut [u32], g: Graph, at: u
 }
 
 // A new graph, and a turn for each node of the list.
-fn read_nodes(terms: &[u32], cells: &mut [u32], work: &mut [u32]) -> Read
+fn read_nodes(terms: &[u32], cells: &mut [u32], work: &mut [u32]) -> Result<Graph, Fault>
     requires { (colours_end cells.old ≤ length work.old) × (length cells.old < nothing) }
     ensures { Reads terms.now cells.new work.new result }
 {
     let mut g = Graph::new(cells, work);
     let mut at = 0;
     while at < terms.len() {
-        match read_node(terms, cells, work, g, at) {
-            Turn::Next(h, end) => {
-                g = h;
-                at = end;
-            }
-            Turn::Broken => {
-                return Read::Broken;
-            }
-            Turn::Full => {
-                return Read::Full;
-            }
-        }
+        let (h, end) = read_node(terms, cells, work, g, at)?;
+        g = h;
+        at = end;
     }
-    Read::Whole(g)
+    Ok(g)
 }
 
 // The number of each node's root.
@@ -145,11 +131,9 @@ fn write_roots(g: Graph, cells: &[u32], work: &mut [u32], roots: &mut [u32])
     ensures { Writes cells.now work.old roots.new g (length roots.old) }
 {
     let n = g.nodes;
-    let mut i: usize = 0;
-    while i < n {
+    for i in 0..n {
         let r = g.find(cells, work, Node(i as u32));
         roots[i] = r.0;
-        i += 1;
     }
 }
 
@@ -208,8 +192,8 @@ fn solve(
         return tell_joined(g, cells, work, roots, stage, 0);
     }
     match unify(g, cells, work, x, y) {
-        Outcome::Joined(n) => tell_joined(g, cells, work, roots, stage, n),
-        Outcome::Clash(n) => Unification {
+        Ok(n) => tell_joined(g, cells, work, roots, stage, n),
+        Err(n) => Unification {
             code: 1,
             taken: n as u64,
             circular: 0,
@@ -271,9 +255,9 @@ fn solve_list(
         return refusal(3);
     }
     match read_nodes(terms, cells, work) {
-        Read::Whole(g) => ask(g, cells, work, roots, x, y, stage),
-        Read::Broken => refusal(2),
-        Read::Full => refusal(3),
+        Ok(g) => ask(g, cells, work, roots, x, y, stage),
+        Err(Fault::Broken) => refusal(2),
+        Err(Fault::Full) => refusal(3),
     }
 }
 
@@ -291,9 +275,9 @@ pub extern "C" fn unify_nodes(
 ) -> Unification
     ensures { ◌≡◌ {A = Left} (record { answer = result; roots = roots.new; cells = cells.new; work = work.new }) (leaves terms.now x y stage (length roots.old) (length cells.old) (length work.old)) }
 {
-    zero_words(roots);
+    roots.fill(0);
     let answer = solve_list(terms, x, y, stage, roots, cells, work);
-    zero_words(cells);
-    zero_words(work);
+    cells.fill(0);
+    work.fill(0);
     answer
 }

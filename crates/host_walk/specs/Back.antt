@@ -1,4 +1,5 @@
 -- Reading back: what stands in work ahead of it, and that it comes to what the definition says.
+use Rattle.std.specs.Prelude.{Some, None, Result, Ok, Err}
 use Rattle.std.specs.Prelude.{◌≡◌, true, false, ℕ, ◌+◌, ◌-◌, ◌≤◌, ◌<◌, take, drop, replicate}
 use Rattle.std.proofs.Math.Path.{sym, ap}
 use Rattle.std.proofs.Common.{◌∙◌, le-leb}
@@ -32,15 +33,13 @@ use Rattle.graph.specs.declared.graph.Graph.{Graph as Counts}
 use Rattle.graph.specs.Cells.{Shows, nodes_few, shows_rows}
 use Rattle.graph.specs.Pushes.{cells_shown}
 use Rattle.term_readback.specs.declared.table.Table.{Table}
-use Rattle.term_readback.specs.declared.root.Resolved.TheVariants as read
 use Rattle.term_readback.specs.Words.{values_at, numbers_at, table_end, table_in, Grounded, Lies, Holding, Ready}
 use Rattle.term_lift.specs.Kept.{lifts_on}
 use Rattle.term_readback.specs.Moved.{table_at, table_long, numbers-most}
 use Rattle.term_readback.specs.Stacks.{Clears, Answers}
-use Rattle.host_walk.specs.declared.answer.Walk.{Walk}
-use Rattle.host_walk.specs.declared.answer.Walk.TheVariants.{Done, Refused}
 use Rattle.host_walk.specs.Came.{done, ended, read_back}
 use Rattle.host_walk.specs.Walks.{Walks}
+use Rattle.definition.specs.declared.Answer.{Answer}
 
 -- work holds the pack P, behind it lifting's words, behind these the graph h without circles, of nodes with few arguments
 pub record Lying (bytes work words cells : List ℕ) (c : Catalog) (l : Lifted) (t : Table) (st : Store) (g : Counts) (P : Pack) (h : Graph) : Type 0 where
@@ -68,7 +67,7 @@ pub record Blank (work work' cells : List ℕ) (t : Table) (g : Counts) : Type 0
   pub zeros : (r : ℕ) → r < g.nodes → get_or work' (t.at + values_at cells + r) 0 ≡ 0
 
 -- what is answered of whatever pack and graph are held
-abbrev pub Backs : List ℕ → List ℕ → List ℕ → List ℕ → List ℕ → Catalog → Lifted → Table → Store → Counts → ℕ → Walk → Type 0
+abbrev pub Backs : List ℕ → List ℕ → List ℕ → List ℕ → List ℕ → Catalog → Lifted → Table → Store → Counts → ℕ → Result (Pattern × Store × ℕ × ℕ) Answer → Type 0
 Backs bytes work words words' cells c l t st g x w = (P : Pack) (h : Graph) → Lying bytes work words cells c l t st g P h → Walks words' (read_back P h x (nodes words st) (length words)) w
 
 -- the values' words came back as zeros
@@ -134,12 +133,12 @@ module _ (bytes work words cells : List ℕ) (c : Catalog) (l : Lifted) (t : Tab
 
       module _ (x : ℕ) (work' words' : List ℕ) (long : length words' ≡ length words) where
         -- there is no room
-        pub back_short : Answers bytes cleared words work' words' cells c l t st g 0 true x read.Short → Backs bytes work words words' cells c l t st g x (Refused 8 2)
+        pub back_short : Answers bytes cleared words work' words' cells c l t st g 0 true x None → Backs bytes work words words' cells c l t st g x (Err (record { code = 8; place = 2 }))
         unfolding read_back ended
         back_short A P h L = (tt, sym (rw (lt-leb _ _ (A.1 P h [] none_read (back_holds P h L)), ended)))
 
         -- the pattern was read
-        pub back_read : (p : Pattern) (st' : Store) (n : ℕ) → Answers bytes cleared words work' words' cells c l t st g 0 true x (read.Read p st' n) → Backs bytes work words words' cells c l t st g x (Done p st' n g.used)
+        pub back_read : (p : Pattern) (st' : Store) (n : ℕ) → Answers bytes cleared words work' words' cells c l t st g 0 true x (Some (p, st', n)) → Backs bytes work words words' cells c l t st g x (Ok (p, st', n, g.used))
         unfolding read_back ended part
         back_read p st' n A P h L =
             let y = A.2 P h [] none_read (back_holds P h L) in

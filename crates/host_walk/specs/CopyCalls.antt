@@ -1,4 +1,6 @@
 -- The call that copies a pattern: what its steps ask and answer.
+use Rattle.std.specs.Prelude.{Ok, Err}
+use Rattle.std.specs.Prelude.{Some, None, Result, Ok, Err}
 use Rattle.std.specs.Prelude.{◌≡◌, true, ◌||◌, List, ℕ, ◌+◌, ◌*◌, ◌/◌, ◌≤◌, ◌<◌, eqb}
 use Rattle.std.proofs.Math.Path.{sym, ap, ap₂}
 use Rattle.std.proofs.Common.{subst, ◌∙◌, arith}
@@ -34,11 +36,7 @@ use Rattle.theory.specs.Copies.Terms.{Patterns}
 use Rattle.term_readback.specs.declared.table.Table.{Table}
 use Rattle.term_readback.specs.Words.{table_in}
 use Rattle.term_lift.specs.Kept.{lifts_on}
-use Rattle.host_walk.specs.declared.answer.Walk.{Walk}
-use Rattle.host_walk.specs.declared.answer.Walk.TheVariants.{Done, Refused}
-use Rattle.host_walk.specs.declared.copies.Times.TheVariants.{Made, Short}
 use Rattle.host_walk.specs.declared.place.Stock.{Stock}
-use Rattle.host_walk.specs.declared.list.Listed.TheVariants.{Whole, Broken as NoList, Full as NoRoom}
 use Rattle.host_walk.specs.Came.{done}
 use Rattle.host_walk.specs.Walks.{Walks}
 use Rattle.host_walk.specs.Places.{Opened, held_there, Lays, lays_low, Sized, sized, Stores}
@@ -48,6 +46,8 @@ use Rattle.host_walk.specs.Lists.{Lists}
 use Rattle.host_walk.specs.Plain.{plain_inner, plain_ends}
 use Rattle.host_walk.specs.Copies.{copied_times, last_read, times_read, pattern_copied, list_copied_of, pack_copied}
 use Rattle.host_walk.specs.Times.{Started, times_of, Timed, last_inside}
+use Rattle.host_walk.specs.declared.list.Fault.TheVariants.{Broken, Full}
+use Rattle.definition.specs.declared.Answer.{Answer}
 
 -- ---- where copying has its words: behind the store's index
 abbrev pub stack_at : Lifted → ℕ → ℕ
@@ -79,7 +79,7 @@ pub record Last (bytes work words cells : List ℕ) (c : Catalog) (l : Lifted) (
   pub node : 0 < copies → x < g.nodes
 
 -- what is answered of whatever pack and graph are held
-abbrev pub Lasts : List ℕ → List ℕ → List ℕ → List ℕ → List ℕ → Catalog → Lifted → Table → Store → Counts → ℕ → ℕ → ℕ → Walk → Type 0
+abbrev pub Lasts : List ℕ → List ℕ → List ℕ → List ℕ → List ℕ → Catalog → Lifted → Table → Store → Counts → ℕ → ℕ → ℕ → Result (Pattern × Store × ℕ × ℕ) Answer → Type 0
 Lasts bytes work words words' cells c l t st g x copies read w =
     (P : Pack) (h : Graph) → Lying bytes work words cells c l t st g P h → Walks words' (last_read P (nodes words st) (record { at = x; graph = h }) copies read (length words)) w
 
@@ -88,12 +88,12 @@ abbrev pub LastOf : (bytes work words cells : List ℕ) (s : Stock) (t : Table) 
 LastOf bytes work words cells s t g x copies = Last bytes work words cells s.catalog s.lifted t s.store g x copies
 
 -- and what is answered
-abbrev pub LastsOf : (bytes work words words' cells : List ℕ) (s : Stock) (t : Table) (g : Counts) (x copies read : ℕ) → Walk → Type 0
+abbrev pub LastsOf : (bytes work words words' cells : List ℕ) (s : Stock) (t : Table) (g : Counts) (x copies read : ℕ) → Result (Pattern × Store × ℕ × ℕ) Answer → Type 0
 LastsOf bytes work words words' cells s t g x copies read w = Lasts bytes work words words' cells s.catalog s.lifted t s.store g x copies read w
 
 module _ (bytes work words cells : List ℕ) (c : Catalog) (l : Lifted) (t : Table) (st : Store) (g : Counts) (x copies read : ℕ) where
   -- nothing is read
-  pub last_none : (eqb read 0 || eqb copies 0) ≡ true → (p : Pattern) → p.0 ≡ 0 → Lasts bytes work words words cells c l t st g x copies read (Done p st 0 g.used)
+  pub last_none : (eqb read 0 || eqb copies 0) ≡ true → (p : Pattern) → p.0 ≡ 0 → Lasts bytes work words words cells c l t st g x copies read (Ok (p, st, 0, g.used))
   unfolding last_read
   last_none e p z P h L = ((index_in work l, L.lifts.laid.index), ap₂ (λ (q n : ℕ). done q (nodes words st) 0 n) z (sym (cells_shown cells (table_in t work) g h L.shows)) ∙ sym (rw (e, last_read)))
 
@@ -106,7 +106,7 @@ module _ (bytes work words cells : List ℕ) (c : Catalog) (l : Lifted) (t : Tab
   uncopied e = or_right (eqb read 0) (eqb copies 0) (eq-eqb copies 0 e)
 
   -- it is read
-  pub last_read_law : (read ≡ 0 → ⊥) → (copies ≡ 0 → ⊥) → (words' : List ℕ) (w : Walk) → Backs bytes work words words' cells c l t st g x w → Lasts bytes work words words' cells c l t st g x copies read w
+  pub last_read_law : (read ≡ 0 → ⊥) → (copies ≡ 0 → ⊥) → (words' : List ℕ) (w : Result (Pattern × Store × ℕ × ℕ) Answer) → Backs bytes work words words' cells c l t st g x w → Lasts bytes work words words' cells c l t st g x copies read w
   unfolding last_read
   last_read_law a b words' w K P h L = let W = K P h L in (W.0, W.1 ∙ sym (rw (ne_eqb read 0 a, ne_eqb copies 0 b, last_read)))
 
@@ -119,7 +119,7 @@ pub record Copyable (bytes work words cells flex : List ℕ) (c : Catalog) (l : 
   pub given : p < length (nodes words st)
 
 -- what is answered of whatever pack is held
-abbrev pub Copied : List ℕ → List ℕ → List ℕ → List ℕ → List ℕ → ℕ → Catalog → Store → ℕ → ℕ → ℕ → Walk → Type 0
+abbrev pub Copied : List ℕ → List ℕ → List ℕ → List ℕ → List ℕ → ℕ → Catalog → Store → ℕ → ℕ → ℕ → Result (Pattern × Store × ℕ × ℕ) Answer → Type 0
 Copied bytes work words words' flex room c st p copies read w =
     (P : Pack) → Reads bytes (records_of work c) P → Proper P → Walks words' (times_read P (nodes words st) (copied_times copies (nodes words st) (marks_in flex) p) copies read (length words) room) w
 
@@ -128,7 +128,7 @@ abbrev pub CopyableOf : (bytes work words cells flex : List ℕ) (s : Stock) (p 
 CopyableOf bytes work words cells flex s p = Copyable bytes work words cells flex s.catalog s.lifted s.store p
 
 -- and what is answered
-abbrev pub CopiedOf : (bytes work words words' flex : List ℕ) (room : ℕ) (s : Stock) (p copies read : ℕ) → Walk → Type 0
+abbrev pub CopiedOf : (bytes work words words' flex : List ℕ) (room : ℕ) (s : Stock) (p copies read : ℕ) → Result (Pattern × Store × ℕ × ℕ) Answer → Type 0
 CopiedOf bytes work words words' flex room s p copies read w = Copied bytes work words words' flex room s.catalog s.store p copies read w
 
 module _ (bytes work words cells flex : List ℕ) (c : Catalog) (l : Lifted) (st : Store) (p : ℕ) (A : Copyable bytes work words cells flex c l st p) (k : Copying) (is : k ≡ copying_of l (length words) (length cells) (length flex)) where
@@ -144,11 +144,11 @@ module _ (bytes work words cells flex : List ℕ) (c : Catalog) (l : Lifted) (st
 
   module _ (copies read : ℕ) (work₁ cells₁ : List ℕ) where
     -- there is no room for all copies
-    pub copied_short : (words' : List ℕ) → Timed work work₁ words cells cells₁ flex k st p copies Short → Copied bytes work words words' flex (length cells) c st p copies read (Refused 8 3)
+    pub copied_short : (words' : List ℕ) → Timed work work₁ words cells cells₁ flex k st p copies None → Copied bytes work words words' flex (length cells) c st p copies read (Err (record { code = 8; place = 3 }))
     unfolding times_read
     copied_short words' T P R Q = (tt, sym (rw (lt-leb _ _ T, times_read)))
 
-    module _ (x : Node) (g : Counts) (T : Timed work work₁ words cells cells₁ flex k st p copies (Made x g)) where
+    module _ (x : Node) (g : Counts) (T : Timed work work₁ words cells cells₁ flex k st p copies (Some (x, g))) where
       -- the graph's table
       abbrev table : Table
       table = record { at = k.graph; end = k.end }
@@ -187,7 +187,7 @@ module _ (bytes work words cells flex : List ℕ) (c : Catalog) (l : Lifted) (st
           }
 
       -- what is read is the last copy
-      pub copied_read : (words' : List ℕ) (w : Walk) → Lasts bytes work₁ words words' cells₁ c l table st g x.0 copies read w → Copied bytes work words words' flex (length cells) c st p copies read w
+      pub copied_read : (words' : List ℕ) (w : Result (Pattern × Store × ℕ × ℕ) Answer) → Lasts bytes work₁ words words' cells₁ c l table st g x.0 copies read w → Copied bytes work words words' flex (length cells) c st p copies read w
       unfolding times_read
       copied_read words' w K P R Q =
           let L = lying P R Q in
@@ -207,7 +207,7 @@ pub record Stocked (bytes work words cells flex : List ℕ) (c : Catalog) (l : L
   pub room : (copying_of l (length words) (length cells) (length flex)).end ≤ length work
 
 -- what is answered of whatever pack is held
-abbrev pub FromStock : List ℕ → List ℕ → List ℕ → List ℕ → List ℕ → ℕ → Catalog → Store → ℕ → ℕ → ℕ → Walk → Type 0
+abbrev pub FromStock : List ℕ → List ℕ → List ℕ → List ℕ → List ℕ → ℕ → Catalog → Store → ℕ → ℕ → ℕ → Result (Pattern × Store × ℕ × ℕ) Answer → Type 0
 FromStock bytes work words words' flex room c st p copies read w =
     (P : Pack) → Reads bytes (records_of work c) P → Proper P → Walks words' (pattern_copied P (nodes words st) flex p copies read (length words) room) w
 
@@ -216,7 +216,7 @@ abbrev pub StockedOf : (bytes work words cells flex : List ℕ) (s : Stock) → 
 StockedOf bytes work words cells flex s = Stocked bytes work words cells flex s.catalog s.lifted s.store
 
 -- and what is answered
-abbrev pub FromStockOf : (bytes work words words' flex : List ℕ) (room : ℕ) (s : Stock) (p copies read : ℕ) → Walk → Type 0
+abbrev pub FromStockOf : (bytes work words words' flex : List ℕ) (room : ℕ) (s : Stock) (p copies read : ℕ) → Result (Pattern × Store × ℕ × ℕ) Answer → Type 0
 FromStockOf bytes work words words' flex room s p copies read w = FromStock bytes work words words' flex room s.catalog s.store p copies read w
 
 module _ (bytes work words cells flex : List ℕ) (c : Catalog) (l : Lifted) (st : Store) (B : Stocked bytes work words cells flex c l st) (p copies read : ℕ) where
@@ -225,7 +225,7 @@ module _ (bytes work words cells flex : List ℕ) (c : Catalog) (l : Lifted) (st
   counted = B.lifts.laid.index.placed.len
 
   -- there is no such pattern
-  pub stock_refused : st.len ≤ p → FromStock bytes work words words flex (length cells) c st p copies read (Refused 12 0)
+  pub stock_refused : st.len ≤ p → FromStock bytes work words words flex (length cells) c st p copies read (Err (record { code = 12; place = 0 }))
   unfolding pattern_copied
   stock_refused h P R Q = let m : length (nodes words st) ≤ p = omega (arith, counted) in (tt, sym (rw (le-ltb _ _ m, pattern_copied)))
 
@@ -235,7 +235,7 @@ module _ (bytes work words cells flex : List ℕ) (c : Catalog) (l : Lifted) (st
     stock_copyable = record { lifts = B.lifts; patterns = B.patterns; small = B.small; room = B.room; given = omega (arith, counted) }
 
     -- what is answered of it
-    pub stock_copied : (words' : List ℕ) (w : Walk) → Copied bytes work words words' flex (length cells) c st p copies read w → FromStock bytes work words words' flex (length cells) c st p copies read w
+    pub stock_copied : (words' : List ℕ) (w : Result (Pattern × Store × ℕ × ℕ) Answer) → Copied bytes work words words' flex (length cells) c st p copies read w → FromStock bytes work words words' flex (length cells) c st p copies read w
     unfolding pattern_copied
     stock_copied words' w K P R Q = let m : p < length (nodes words st) = omega (arith, counted) in let W = K P R Q in (W.0, W.1 ∙ sym (rw (lt-ltb _ _ m, pattern_copied)))
 
@@ -245,7 +245,7 @@ module _ (bytes work words cells flex : List ℕ) (c : Catalog) (l : Lifted) (st
 
 -- ---- a list
 -- what is answered of whatever pack is held
-abbrev pub FromList : List ℕ → List ℕ → List ℕ → List ℕ → List ℕ → ℕ → ℕ → Catalog → ℕ → ℕ → ℕ → Walk → Type 0
+abbrev pub FromList : List ℕ → List ℕ → List ℕ → List ℕ → List ℕ → ℕ → ℕ → Catalog → ℕ → ℕ → ℕ → Result (Pattern × Store × ℕ × ℕ) Answer → Type 0
 FromList bytes from work words' flex patterns room c p copies read w =
     (P : Pack) → Reads bytes (records_of work c) P → Proper P → Walks words' (list_copied_of P (listed from patterns) flex p copies read patterns room) w
 
@@ -275,16 +275,16 @@ module _ (bytes from work words cells flex : List ℕ) (c : Catalog) (M : Marked
 
     module _ (work₁ : List ℕ) (st₀ : Store) (T : Stores bytes work work₁ words c l st₀) (work₂ words' : List ℕ) (long : length words' ≡ length words) where
       -- the list is no list of patterns
-      pub list_broken : Lists bytes from work₁ work₂ words' c l NoList → (p copies read : ℕ) → FromList bytes from work words' flex (length words) (length cells) c p copies read (Refused 12 0)
+      pub list_broken : Lists bytes from work₁ work₂ words' c l (Err Broken) → (p copies read : ℕ) → FromList bytes from work words' flex (length words) (length cells) c p copies read (Err (record { code = 12; place = 0 }))
       unfolding list_copied_of
       list_broken E p copies read P R Q = let e : listed from (length words) ≡ broken = ap (listed from) (sym long) ∙ E in (tt, sym (rw (e, list_copied_of)))
 
       -- it does not fit
-      pub list_full : Lists bytes from work₁ work₂ words' c l NoRoom → (p copies read : ℕ) → FromList bytes from work words' flex (length words) (length cells) c p copies read (Refused 8 2)
+      pub list_full : Lists bytes from work₁ work₂ words' c l (Err Full) → (p copies read : ℕ) → FromList bytes from work words' flex (length words) (length cells) c p copies read (Err (record { code = 8; place = 2 }))
       unfolding list_copied_of
       list_full E p copies read P R Q = let e : listed from (length words) ≡ full = ap (listed from) (sym long) ∙ E in (tt, sym (rw (e, list_copied_of)))
 
-      module _ (st : Store) (E : Lists bytes from work₁ work₂ words' c l (Whole st)) where
+      module _ (st : Store) (E : Lists bytes from work₁ work₂ words' c l (Ok st)) where
         -- its store
         pub list_stocked : Stocked bytes work₂ words' cells flex c l st
         list_stocked =
@@ -299,7 +299,7 @@ module _ (bytes from work words cells flex : List ℕ) (c : Catalog) (M : Marked
             }
 
         -- what is answered of it
-        pub list_copied : (words'' : List ℕ) (p copies read : ℕ) (w : Walk) → FromStock bytes work₂ words' words'' flex (length cells) c st p copies read w → FromList bytes from work words'' flex (length words) (length cells) c p copies read w
+        pub list_copied : (words'' : List ℕ) (p copies read : ℕ) (w : Result (Pattern × Store × ℕ × ℕ) Answer) → FromStock bytes work₂ words' words'' flex (length cells) c st p copies read w → FromList bytes from work words'' flex (length words) (length cells) c p copies read w
         unfolding list_copied_of
         list_copied words'' p copies read w K P R Q =
             let S : Same work work₂ c = same_then work work₁ work₂ c T.same E.3 in
@@ -308,16 +308,16 @@ module _ (bytes from work words cells flex : List ℕ) (c : Catalog) (M : Marked
             (W.0, W.1 ∙ ap (λ (n : ℕ). pattern_copied P (nodes words' st) flex p copies read n (length cells)) long ∙ sym (rw (e, list_copied_of)))
 
 -- ---- a pack
-abbrev pub FromPack : List ℕ → List ℕ → List ℕ → List ℕ → List ℕ → ℕ → ℕ → ℕ → ℕ → ℕ → Walk → Type 0
+abbrev pub FromPack : List ℕ → List ℕ → List ℕ → List ℕ → List ℕ → ℕ → ℕ → ℕ → ℕ → ℕ → Result (Pattern × Store × ℕ × ℕ) Answer → Type 0
 FromPack bytes from work words' flex patterns room p copies read w = (P : Pack) → parse bytes ≡ fine P → Represents bytes work P → Walks words' (pack_copied P from flex p copies read patterns room) w
 
 -- more marks than words
-pub pack_marks : (bytes from work words' flex : List ℕ) (patterns room p copies read : ℕ) → patterns < length flex → FromPack bytes from work words' flex patterns room p copies read (Refused 2 0)
+pub pack_marks : (bytes from work words' flex : List ℕ) (patterns room p copies read : ℕ) → patterns < length flex → FromPack bytes from work words' flex patterns room p copies read (Err (record { code = 2; place = 0 }))
 unfolding pack_copied
 pack_marks bytes from work words' flex patterns room p copies read h P e R = (tt, sym (rw (lt-ltb _ _ h, pack_copied)))
 
 -- no more
-pub pack_copied_law : (bytes from work words' flex : List ℕ) (patterns room p copies read : ℕ) (c : Catalog) (w : Walk) → length flex ≤ patterns → c ≡ tables_of (length bytes) → FromList bytes from work words' flex patterns room c p copies read w → FromPack bytes from work words' flex patterns room p copies read w
+pub pack_copied_law : (bytes from work words' flex : List ℕ) (patterns room p copies read : ℕ) (c : Catalog) (w : Result (Pattern × Store × ℕ × ℕ) Answer) → length flex ≤ patterns → c ≡ tables_of (length bytes) → FromList bytes from work words' flex patterns room c p copies read w → FromPack bytes from work words' flex patterns room p copies read w
 unfolding pack_copied
 pack_copied_law bytes from work words' flex patterns room p copies read c w h e K P f R =
     let W = K P (reads_there bytes work c e P R) (parsed_proper bytes P f) in

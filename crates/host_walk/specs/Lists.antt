@@ -1,4 +1,6 @@
 -- Reading a list of patterns: what the functions owe to each other, and the laws of a turn: what is left to read gives the whole.
+use Rattle.std.specs.Prelude.{Result, Ok, Err}
+use Rattle.std.specs.Prelude.{Some, None}
 use Rattle.std.specs.Prelude.{◌≡◌, true, false, List, [], ℕ, suc, ◌+◌, ◌-◌, ◌≤◌, ◌<◌, length, get_or, take, drop}
 use Rattle.std.proofs.Common.{sym, ap, ap₂, subst, ◌∙◌, arith, length-drop, drop_of_length-le, drop-drop}
 use Rattle.definition.specs.Pack.{Node}
@@ -7,7 +9,6 @@ use Rattle.base.specs.declared.id.Pattern.{Pattern}
 use Rattle.store.specs.Words.{node_with, begins_long}
 use Rattle.store.specs.Stored.{nodes}
 use Rattle.store.specs.declared.nodes.Store.{Store}
-use Rattle.store.specs.declared.nodes.Interned.TheVariants.{Id, Short}
 use Rattle.pack_tables.specs.SameTables.{Same}
 use Rattle.pack_tables.specs.declared.catalog.Catalog.{Catalog}
 use Rattle.term_lift.specs.Lifts.{Lifts}
@@ -15,11 +16,9 @@ use Rattle.term_lift.specs.Nodes.{laid_same}
 use Rattle.term_lift.specs.declared.lift.Lifted.{Lifted}
 use Rattle.term_lift.specs.Kept.{Indexed, Interns}
 use Rattle.theory.specs.Copies.Terms.{Patterns}
-use Rattle.host_walk.specs.declared.list.Turn.{Turn}
-use Rattle.host_walk.specs.declared.list.Turn.TheVariants.{Next, Broken, Full}
-use Rattle.host_walk.specs.declared.list.Listed.{Listed as Came}
-use Rattle.host_walk.specs.declared.list.Listed.TheVariants.{Whole, Broken as NoList, Full as NoRoom}
 use Rattle.host_walk.specs.Listed.{node_ahead, words_ahead, is_pattern, is_ahead, whole, broken, full, list_from, listed, patterns_none, patterns_more, words-ahead, node-ahead, few_words, all_words, list_none, list_broken, list_full, list_next}
+use Rattle.host_walk.specs.declared.list.Fault.{Fault}
+use Rattle.host_walk.specs.declared.list.Fault.TheVariants.{Broken, Full}
 
 -- ---- what is owed
 -- the nodes up to `at` stand in the store, and the rest of the list gives the whole
@@ -31,16 +30,16 @@ pub record Reading (from words : List ℕ) (st : Store) (at : ℕ) : Type 0 wher
   pub left : list_from fuel (length words) (nodes words st) (drop at from) ≡ listed from (length words)
 
 -- after a turn
-abbrev pub Turned : List ℕ → List ℕ → List ℕ → List ℕ → List ℕ → Catalog → Lifted → ℕ → Turn → Type 0
-Turned bytes from work work' words' c l at (Next st end) = Lifts bytes work' words' c l st × Reading from words' st end × (at < end) × Same work work' c
-Turned bytes from work work' words' c l at Broken = listed from (length words') ≡ broken
-Turned bytes from work work' words' c l at Full = listed from (length words') ≡ full
+abbrev pub Turned : List ℕ → List ℕ → List ℕ → List ℕ → List ℕ → Catalog → Lifted → ℕ → Result (Store × ℕ) Fault → Type 0
+Turned bytes from work work' words' c l at (Ok (st, end)) = Lifts bytes work' words' c l st × Reading from words' st end × (at < end) × Same work work' c
+Turned bytes from work work' words' c l at (Err Broken) = listed from (length words') ≡ broken
+Turned bytes from work work' words' c l at (Err Full) = listed from (length words') ≡ full
 
 -- and after all
-abbrev pub Lists : List ℕ → List ℕ → List ℕ → List ℕ → List ℕ → Catalog → Lifted → Came → Type 0
-Lists bytes from work work' words' c l (Whole st) = Lifts bytes work' words' c l st × Patterns (nodes words' st) × (listed from (length words') ≡ whole (nodes words' st)) × Same work work' c
-Lists bytes from work work' words' c l NoList = listed from (length words') ≡ broken
-Lists bytes from work work' words' c l NoRoom = listed from (length words') ≡ full
+abbrev pub Lists : List ℕ → List ℕ → List ℕ → List ℕ → List ℕ → Catalog → Lifted → Result Store Fault → Type 0
+Lists bytes from work work' words' c l (Ok st) = Lifts bytes work' words' c l st × Patterns (nodes words' st) × (listed from (length words') ≡ whole (nodes words' st)) × Same work work' c
+Lists bytes from work work' words' c l (Err Broken) = listed from (length words') ≡ broken
+Lists bytes from work work' words' c l (Err Full) = listed from (length words') ≡ full
 
 -- ---- turns
 -- ahead of the first
@@ -89,13 +88,13 @@ module _ (from words : List ℕ) (st : Store) (at : ℕ) (R : Reading from words
 
       module _ (q : is_pattern (length (nodes words st)) (node_with key) ≡ true) (bytes work work' words' : List ℕ) (c : Catalog) (l : Lifted) (L : Lifts bytes work words c l st) (long : length words' ≡ length words) where
         -- the store is full
-        pub turned_full : Interns work words work' words' l st key Short → listed from (length words') ≡ full
+        pub turned_full : Interns work words work' words' l st key None → listed from (length words') ≡ full
         turned_full I =
             let h : length words < length (pattern_words (intern (nodes words st) (node_ahead (drop at from))).store) = rw (← node-ahead from at end e) I.0 in
             ap (listed from) long ∙ sym left_is ∙ list_full (R.fuel - 1) (length words) (nodes words st) (drop at from) some (ahead_is ∙ q) h
 
         -- one node more
-        pub turned_next : (p : Pattern) (st' : Store) → Interns work words work' words' l st key (Id p st') → Turned bytes from work work' words' c l at (Next st' end)
+        pub turned_next : (p : Pattern) (st' : Store) → Interns work words work' words' l st key (Some (p, st')) → Turned bytes from work work' words' c l at (Ok (st', end))
         turned_next p st' I =
             let L' = I.0 bytes c L in
             let t : (intern (nodes words st) (node_with key)).store ≡ nodes words' st' = ap (λ (o : Placing). o.store) I.1 in

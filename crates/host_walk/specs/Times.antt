@@ -1,4 +1,5 @@
 -- Copying so many times: what is held between two copies, and what is answered.
+use Rattle.std.specs.Prelude.{Option, Some, None}
 use Rattle.std.specs.Prelude.{◌≡◌, refl, get_or, take, drop}
 use Rattle.std.proofs.Common.{sym, ◌∙◌, add-one}
 use Rattle.std.proofs.Math.Path.{ap, subst}
@@ -19,12 +20,9 @@ use Rattle.memo.specs.declared.memo.Memo.{Memo}
 use Rattle.graph.specs.declared.graph.Graph.{Graph as Counts}
 use Rattle.graph.specs.Cells.{Shows, marks_in}
 use Rattle.term_copy.specs.declared.node.Copying.{Copying}
-use Rattle.term_copy.specs.declared.copy.Copied.TheVariants as answers
 use Rattle.term_copy.specs.Held.{index_in, graph_in, Laid, Given, Copies}
 use Rattle.term_copy.specs.Places.{table_in}
 use Rattle.theory.specs.Copies.Terms.{Patterns}
-use Rattle.host_walk.specs.declared.copies.Times.{Times}
-use Rattle.host_walk.specs.declared.copies.Times.TheVariants.{Made, Short}
 use Rattle.host_walk.specs.Copies.{copied_times}
 use Rattle.host_walk.specs.Plain.{Plain, plain_none, plain_inner, copy_plain, copy_inside, copy_grows}
 
@@ -58,9 +56,9 @@ pub record Timing (before work words cells₀ cells flex : List ℕ) (l : Copyin
   pub last_is : last ≡ (times_of words flex st p i).at
 
 -- all copies stand there, or they take more cells than there are
-abbrev pub Timed : List ℕ → List ℕ → List ℕ → List ℕ → List ℕ → List ℕ → Copying → Store → ℕ → ℕ → Times → Type 0
-Timed before work words cells₀ cells flex l st p n (Made x g) = (memo : Memo) × Timing before work words cells₀ cells flex l st memo g p n x.0
-Timed before work words cells₀ cells flex l st p n Short = length cells₀ < cells_of (times_of words flex st p n).graph
+abbrev pub Timed : List ℕ → List ℕ → List ℕ → List ℕ → List ℕ → List ℕ → Copying → Store → ℕ → ℕ → Option (Id × Counts) → Type 0
+Timed before work words cells₀ cells flex l st p n (Some (x, g)) = (memo : Memo) × Timing before work words cells₀ cells flex l st memo g p n x.0
+Timed before work words cells₀ cells flex l st p n None = length cells₀ < cells_of (times_of words flex st p n).graph
 
 -- ---- the beginning
 -- the graph's table came back
@@ -114,7 +112,7 @@ module _ (before words cells₀ flex : List ℕ) (l : Copying) (st : Store) (p :
         }
 
     -- what is answered from there on is answered from the start
-    pub timed_from : (work' cells' : List ℕ) (i n : ℕ) → i ≡ n → (x : Id) (memo' : Memo) (g' : Counts) → Timing work₂ work' words cells₀ cells' flex l st memo' g' p i x.0 → Timed before work' words cells₀ cells' flex l st p n (Made x g')
+    pub timed_from : (work' cells' : List ℕ) (i n : ℕ) → i ≡ n → (x : Id) (memo' : Memo) (g' : Counts) → Timing work₂ work' words cells₀ cells' flex l st memo' g' p i x.0 → Timed before work' words cells₀ cells' flex l st p n (Some (x, g'))
     timed_from work' cells' i n e x memo' g' T = rw (← e) (
       memo',
       record {
@@ -146,7 +144,7 @@ module _ (before words cells₀ flex : List ℕ) (l : Copying) (st : Store) (p :
         )
 
     -- it is made
-    pub timing_more : (work' cells' : List ℕ) → length cells' ≡ length cells → (x : Id) (g' : Counts) (memo' : Memo) → Copies work work' words cells cells' flex l st g p (answers.At x g' memo') → Timing before work' words cells₀ cells' flex l st memo' g' p (i + 1) x.0
+    pub timing_more : (work' cells' : List ℕ) → length cells' ≡ length cells → (x : Id) (g' : Counts) (memo' : Memo) → Copies work work' words cells cells' flex l st g p (Some (x, g', memo')) → Timing before work' words cells₀ cells' flex l st memo' g' p (i + 1) x.0
     unfolding copied_times
     timing_more work' cells' long x g' memo' C =
         let h = (times_of words flex st p i).graph in
@@ -171,7 +169,7 @@ module _ (before words cells₀ flex : List ℕ) (l : Copying) (st : Store) (p :
     ]
 
     -- there is no room for it
-    pub timing_short : (work' cells' : List ℕ) (n : ℕ) → i < n → Copies work work' words cells cells' flex l st g p answers.Short → Timed before work' words cells₀ cells' flex l st p n Short
+    pub timing_short : (work' cells' : List ℕ) (n : ℕ) → i < n → Copies work work' words cells cells' flex l st g p None → Timed before work' words cells₀ cells' flex l st p n None
     unfolding copied_times
     timing_short work' cells' n less C =
         let h = (times_of words flex st p i).graph in

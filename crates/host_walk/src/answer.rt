@@ -5,7 +5,8 @@ ghost use Rattle.host_walk.specs.Came.{done, refused, Left, leaves};
 ghost use Rattle.host_walk.specs.Walks.{Kept, Ends, came_of, Tells};
 
 use base::id::Pattern;
-use buffer::zero::{zero_words, zero_words_from};
+use buffer::zero::fill_from;
+use definition::Answer;
 use store::nodes::Store;
 
 // The answer: 0 with a pattern's number, how many variables are numbered and how many cells the graph has; or a refusal's number and
@@ -19,19 +20,12 @@ pub struct Walked {
     pub cells: u64,
 }
 
-// A pattern of a store, with so many variables numbered, of a graph of so many cells; or a refusal's number and place.
-#[derive(Clone, Copy)]
-pub enum Walk {
-    Done(Pattern, Store, usize, usize),
-    Refused(u64, u64),
-}
-
 // A pattern's answer, with zeros behind the store's words.
 fn finish(p: Pattern, st: Store, numbered: usize, used: usize, patterns: &mut [u32]) -> Walked
     requires { Kept patterns.old st }
     ensures { Tells (done p.0 (nodes patterns.old st) numbered used) result patterns.new (length patterns.old) }
 {
-    zero_words_from(patterns, st.used());
+    fill_from(patterns, st.used(), 0);
     Walked {
         code: 0,
         at: p.0 as u64,
@@ -44,7 +38,7 @@ fn finish(p: Pattern, st: Store, numbered: usize, used: usize, patterns: &mut [u
 fn refuse(code: u64, place: u64, patterns: &mut [u32]) -> Walked
     ensures { Tells (refused code place) result patterns.new (length patterns.old) }
 {
-    zero_words(patterns);
+    patterns.fill(0);
     Walked {
         code: code,
         at: place,
@@ -54,23 +48,28 @@ fn refuse(code: u64, place: u64, patterns: &mut [u32]) -> Walked
 }
 
 // The answer, with the patterns as a call leaves them.
-fn tell(walk: Walk, patterns: &mut [u32]) -> Walked
+fn tell(walk: Result<(Pattern, Store, usize, usize), Answer>, patterns: &mut [u32]) -> Walked
     requires { Ends patterns.old walk }
     ensures { Tells (came_of patterns.old walk) result patterns.new (length patterns.old) }
 {
     match walk {
-        Walk::Done(p, st, numbered, used) => finish(p, st, numbered, used, patterns),
-        Walk::Refused(code, place) => refuse(code, place, patterns),
+        Ok((p, st, numbered, used)) => finish(p, st, numbered, used, patterns),
+        Err(a) => refuse(a.code, a.place, patterns),
     }
 }
 
 // The answer, with all buffers as a call leaves them.
-pub fn leave(walk: Walk, patterns: &mut [u32], cells: &mut [u32], work: &mut [u32]) -> Walked
+pub fn leave(
+    walk: Result<(Pattern, Store, usize, usize), Answer>,
+    patterns: &mut [u32],
+    cells: &mut [u32],
+    work: &mut [u32],
+) -> Walked
     requires { Ends patterns.old walk }
     ensures { ◌≡◌ {A = Left} (record { answer = result; patterns = patterns.new; cells = cells.new; work = work.new }) (leaves (came_of patterns.old walk) (length patterns.old) (length cells.old) (length work.old)) }
 {
     let answer = tell(walk, patterns);
-    zero_words(cells);
-    zero_words_from(work, 0);
+    cells.fill(0);
+    fill_from(work, 0, 0);
     answer
 }

@@ -3,16 +3,14 @@ ghost use Rattle.std.specs.Prelude.{◌+◌, ◌≤◌, ◌<◌, length};
 ghost use Rattle.term_readback.specs.Words.{table_end};
 ghost use Rattle.host_walk.specs.Back.{Standing, Blank, Backs};
 
-use crate::answer::Walk;
-use base::id::Node;
-use buffer::zero::zero_words;
+use base::id::{Node, Pattern};
+use definition::Answer;
 use graph::graph::Graph;
 use graph::places::values_at;
 use pack_tables::catalog::Catalog;
 use store::nodes::Store;
 use term_lift::lift::Lifted;
 use term_readback::resolve::{clear, resolve};
-use term_readback::root::Resolved;
 use term_readback::table::{Reading, Table};
 
 // No node has a ground value.
@@ -22,10 +20,11 @@ fn no_values(work: &mut [u32], cells: &[u32], t: Table, g: Graph)
 {
     let from = t.at + values_at(cells);
     let end = from + g.nodes;
-    zero_words(&mut work[from..end]);
+    work[from..end].fill(0);
 }
 
-// Node `x` read back, with nothing read back before.
+// Node `x` read back, with nothing read back before: its pattern, the store that has it, how many variables are numbered and how many
+// cells the graph has.
 pub fn read_back(
     pack: &[u8],
     work: &mut [u32],
@@ -37,7 +36,7 @@ pub fn read_back(
     st: Store,
     g: Graph,
     x: Node,
-) -> Walk
+) -> Result<(Pattern, Store, usize, usize), Answer>
     requires { Standing pack.now work.old words.old cells.now c l t st g × (x.0 < g.nodes) }
     ensures { Backs pack.now work.old words.old words.new cells.now c l t st g x.0 result }
 {
@@ -50,8 +49,8 @@ pub fn read_back(
         graph: g,
         everyone: true,
     };
-    match resolve(pack, work, words, cells, reading, st, 0, x) {
-        Resolved::Read(p, more, n) => Walk::Done(p, more, n, g.used),
-        Resolved::Short => Walk::Refused(8, 2),
-    }
+    let Some((p, more, n)) = resolve(pack, work, words, cells, reading, st, 0, x) else {
+        return Err(Answer { code: 8, place: 2 });
+    };
+    Ok((p, more, n, g.used))
 }

@@ -9,12 +9,12 @@ ghost use Rattle.host_walk.specs.Times.{NewGraph, Started, Timed};
 ghost use Rattle.host_walk.specs.CopyCalls.{copying_of, Small, LastOf, LastsOf, CopyableOf, CopiedOf, StockedOf, FromStockOf, Marked, FromList, FromPack};
 ghost use Rattle.definition.specs.Store.{nothing};
 
-use crate::answer::{Walk, Walked, leave};
+use crate::answer::{Walked, leave};
 use crate::back::read_back;
-use crate::list::{Listed, read_list};
+use crate::list::{Fault, read_list};
 use crate::place::{Stock, lifting, open_store};
 use base::id::{Node, Pattern};
-use dock_call::answer::{Outcome, outcome_answer};
+use definition::Answer;
 use dock_call::lent::Lent;
 use dock_call::opening::open_pack;
 use graph::graph::Graph;
@@ -24,17 +24,10 @@ use memo::part::begin;
 use pack_reader::read::tables;
 use pack_tables::catalog::Catalog;
 use store::nodes::Store;
-use term_copy::copy::{Copied, copy};
+use term_copy::copy::copy;
 use term_copy::node::Copying;
 use term_lift::lift::Lifted;
 use term_readback::table::Table;
-
-// The last copy's node and the graph, or that the cells have no room.
-#[derive(Clone, Copy)]
-pub enum Times {
-    Made(Node, Graph),
-    Short,
-}
 
 // A graph without nodes.
 fn new_graph(work: &mut [u32], cells: &[u32], l: Copying) -> Graph
@@ -46,7 +39,7 @@ fn new_graph(work: &mut [u32], cells: &[u32], l: Copying) -> Graph
     Graph::new(cells, &mut work[from..to])
 }
 
-// Pattern `p` is copied so many times, each time with variables of its own.
+// Pattern `p` is copied so many times, each time with variables of its own: the last copy, and the graph; none where the cells have no room.
 fn copy_times(
     work: &mut [u32],
     words: &[u32],
@@ -56,28 +49,20 @@ fn copy_times(
     flex: &[u32],
     p: Pattern,
     copies: u64,
-) -> Times
+) -> Option<(Node, Graph)>
     requires { Started work.old words.now cells.old flex.now l st p.0 }
     ensures { Timed work.old work.new words.now cells.old cells.new flex.now l st p.0 copies result }
 {
     let mut memo = begin(work, l.copied, l.walk);
     let mut g = new_graph(work, cells, l);
     let mut last = Node(0);
-    let mut i: u64 = 0;
-    while i < copies {
-        match copy(work, words, cells, l, st, memo, g, flex, p) {
-            Copied::At(x, more, fresh) => {
-                last = x;
-                g = more;
-                memo = fresh;
-                i += 1;
-            }
-            Copied::Short => {
-                return Times::Short;
-            }
-        }
+    for _ in 0..copies {
+        let (x, more, fresh) = copy(work, words, cells, l, st, memo, g, flex, p)?;
+        last = x;
+        g = more;
+        memo = fresh;
     }
-    Times::Made(last, g)
+    Some((last, g))
 }
 
 // Where copying has its words: behind the store's index.
@@ -113,16 +98,16 @@ fn read_last(
     x: Node,
     copies: u64,
     read: u64,
-) -> Walk
+) -> Result<(Pattern, Store, usize, usize), Answer>
     requires { LastOf pack.now work.old words.old cells.now s t g x.0 copies }
     ensures { LastsOf pack.now work.old words.old words.new cells.now s t g x.0 copies read result }
 {
     let st = s.store;
     if read == 0 {
-        return Walk::Done(Pattern(0), st, 0, g.used);
+        return Ok((Pattern(0), st, 0, g.used));
     }
     if copies == 0 {
-        return Walk::Done(Pattern(0), st, 0, g.used);
+        return Ok((Pattern(0), st, 0, g.used));
     }
     read_back(pack, work, words, cells, s.catalog, s.lifted, t, st, g, x)
 }
@@ -138,24 +123,22 @@ fn copies_in(
     p: Pattern,
     copies: u64,
     read: u64,
-) -> Walk
+) -> Result<(Pattern, Store, usize, usize), Answer>
     requires { CopyableOf pack.now work.old words.old cells.old flex.now s p.0 }
     ensures { CopiedOf pack.now work.old words.old words.new flex.now (length cells.old) s p.0 copies read result }
 {
     let k = copying(s.lifted, words, cells, flex);
-    match copy_times(work, words, cells, k, s.store, flex, p, copies) {
-        Times::Made(x, g) => {
-            let t = Table {
-                at: k.graph,
-                end: k.end,
-            };
-            read_last(pack, work, words, cells, s, t, g, x, copies, read)
-        }
-        Times::Short => Walk::Refused(8, 3),
-    }
+    let Some((x, g)) = copy_times(work, words, cells, k, s.store, flex, p, copies) else {
+        return Err(Answer { code: 8, place: 3 });
+    };
+    let t = Table {
+        at: k.graph,
+        end: k.end,
+    };
+    read_last(pack, work, words, cells, s, t, g, x, copies, read)
 }
 
-// The same of a number that may be no pattern's.
+// The same of a number that may be no pattern's, which is refused.
 fn copy_from(
     pack: &[u8],
     work: &mut [u32],
@@ -166,12 +149,12 @@ fn copy_from(
     p: u64,
     copies: u64,
     read: u64,
-) -> Walk
+) -> Result<(Pattern, Store, usize, usize), Answer>
     requires { StockedOf pack.now work.old words.old cells.old flex.now s }
     ensures { FromStockOf pack.now work.old words.old words.new flex.now (length cells.old) s p copies read result }
 {
     if s.store.len as u64 <= p {
-        return Walk::Refused(12, 0);
+        return Err(Answer { code: 12, place: 0 });
     }
     copies_in(
         pack,
@@ -198,14 +181,14 @@ fn copy_listed(
     p: u64,
     copies: u64,
     read: u64,
-) -> Walk
+) -> Result<(Pattern, Store, usize, usize), Answer>
     requires { Marked pack.now work.old (length words.old) (length cells.old) (length flex.now) c }
     ensures { FromList pack.now from.now work.old words.new flex.now (length words.old) (length cells.old) c p copies read result }
 {
     let l = lifting(work, words, c);
     let empty = open_store(pack, work, words, c, l);
     match read_list(pack, from, work, words, c, l, empty) {
-        Listed::Whole(st) => {
+        Ok(st) => {
             let stock = Stock {
                 catalog: c,
                 lifted: l,
@@ -213,8 +196,8 @@ fn copy_listed(
             };
             copy_from(pack, work, words, cells, stock, flex, p, copies, read)
         }
-        Listed::Broken => Walk::Refused(12, 0),
-        Listed::Full => Walk::Refused(8, 2),
+        Err(Fault::Broken) => Err(Answer { code: 12, place: 0 }),
+        Err(Fault::Full) => Err(Answer { code: 8, place: 2 }),
     }
 }
 
@@ -229,12 +212,12 @@ fn copy_marked(
     p: u64,
     copies: u64,
     read: u64,
-) -> Walk
+) -> Result<(Pattern, Store, usize, usize), Answer>
     requires { Opened pack.now work.old (length words.old) (length cells.old) }
     ensures { FromPack pack.now from.now work.old words.new flex.now (length words.old) (length cells.old) p copies read result }
 {
     if words.len() < flex.len() {
-        return Walk::Refused(2, 0);
+        return Err(Answer { code: 2, place: 0 });
     }
     let c = tables(pack);
     copy_listed(pack, from, work, words, cells, c, flex, p, copies, read)
@@ -251,7 +234,7 @@ fn walk_copies(
     patterns: &mut [u32],
     cells: &mut [u32],
     work: &mut [u32],
-) -> Walk
+) -> Result<(Pattern, Store, usize, usize), Answer>
     ensures { Walks patterns.new (opened (lent_to (length pack.now) (length patterns.old) (length cells.old) (length work.old)) pack.now (λ P. pack_copied P from.now flex.now p copies read (length patterns.old) (length cells.old))) result }
 {
     let lent = Lent {
@@ -263,13 +246,8 @@ fn walk_copies(
         text: 0,
         goals: 0,
     };
-    match open_pack(lent, pack, work) {
-        Outcome::Done => copy_marked(pack, from, work, patterns, cells, flex, p, copies, read),
-        Outcome::Refused(r) => {
-            let a = outcome_answer(Outcome::Refused(r));
-            Walk::Refused(a.code, a.place)
-        }
-    }
+    open_pack(lent, pack, work)?;
+    copy_marked(pack, from, work, patterns, cells, flex, p, copies, read)
 }
 
 // Each node in `from` is interned in order, pattern `p` of them is copied `copies` times into one graph, and the last copy is read back

@@ -1,19 +1,19 @@
 -- The lines that list the records of a pack.
+use Rattle.std.specs.Prelude.{Option, Some, None}
 use Rattle.std.specs.Prelude.{true, false, ◌≡◌, refl, List, [], ◌∷◌, ◌++◌, ℕ, zero, suc, ◌+◌, ◌-◌, ◌<◌, ◌≤◌, leb, ltb, length}
-use Rattle.std.proofs.Common.{◌∙◌, arith, le-leb, lt-ltb, le-ltb}
+use Rattle.std.proofs.Common.{ap, ◌∙◌, arith, le-leb, lt-ltb, le-ltb}
 use Rattle.std.proofs.Math.Decide.{dec_le, dec_lt}
 use Rattle.std.proofs.lemmas.Bool.{lt-leb}
+use Rattle.std.proofs.lemmas.Option.{none-some, same_Some}
 use Rattle.definition.specs.Decimal.{decimal}
 use Rattle.definition.specs.Little.{le}
-use Rattle.list_records.specs.declared.Record.{Record}
-use Rattle.list_records.specs.declared.Record.TheVariants.{Cut, Whole}
 
 -- the record at a place: 4 bytes of length, 2 of kind, and the body
-unfoldable pub record_at : List ℕ → ℕ → Record
+unfoldable pub record_at : List ℕ → ℕ → Option (ℕ × ℕ)
 record_at s at =
     elim (ltb (length s - at) 6) [
-      | true ↦ Cut
-      | false ↦ elim (ltb (length s - (at + 6)) (le 4 s at)) [ true ↦ Cut | false ↦ Whole (le 2 s (at + 4)) (le 4 s at) ]
+      | true ↦ None
+      | false ↦ elim (ltb (length s - (at + 6)) (le 4 s at)) [ true ↦ None | false ↦ Some (le 2 s (at + 4), le 4 s at) ]
     ]
 
 -- a number and the byte behind it
@@ -37,7 +37,7 @@ lines_from zero s at = []
 lines_from (suc f) s at =
     elim (leb (length s) at) [
       | true ↦ []
-      | false ↦ elim (record_at s at) [ Cut ↦ cut_line at | Whole kind n ↦ line at kind n ++ lines_from f s (at + 6 + n) ]
+      | false ↦ elim (record_at s at) [ None ↦ cut_line at | Some (kind, n) ↦ line at kind n ++ lines_from f s (at + 6 + n) ]
     ]
 
 -- the lines of a whole pack
@@ -46,22 +46,19 @@ unfolding lines_from
 lines s = lines_from (length s) s 0
 
 -- a value with its equation, to take cases of
-data Is (r : Record) : Type 0 where
-  is : (q : Record) → r ≡ q → Is r
+data Is (r : Option (ℕ × ℕ)) : Type 0 where
+  is : (q : Option (ℕ × ℕ)) → r ≡ q → Is r
 
 -- a whole record ends within its pack
-pub whole-fits : (s : List ℕ) (at kind n : ℕ) → at ≤ length s → record_at s at ≡ Whole kind n → at + 6 + n ≤ length s
+pub whole-fits : (s : List ℕ) (at kind n : ℕ) → at ≤ length s → record_at s at ≡ Some (kind, n) → at + 6 + n ≤ length s
 unfolding record_at
 whole-fits s at kind n h e = elim (dec_lt (length s - at) 6) [
-  | yes a ↦ let z : Cut ≡ Whole kind n = rw (lt-ltb (length s - at) 6 a, record_at) at e in let o : ◌≡◌ {A = ℕ} 0 1 = cc in absurd (omega arith)
+  | yes a ↦ absurd (none-some (kind, n) (rw (lt-ltb (length s - at) 6 a, record_at) at e))
   | no a ↦ elim (dec_lt (length s - (at + 6)) (le 4 s at)) [
-    | yes b ↦
-        let z : Cut ≡ Whole kind n = rw (le-ltb (length s - at) 6 (omega arith), lt-ltb (length s - (at + 6)) (le 4 s at) b, record_at) at e in
-        let o : ◌≡◌ {A = ℕ} 0 1 = cc in
-        absurd (omega arith)
+    | yes b ↦ absurd (none-some (kind, n) (rw (le-ltb (length s - at) 6 (omega arith), lt-ltb (length s - (at + 6)) (le 4 s at) b, record_at) at e))
     | no b ↦
-        let z : Whole (le 2 s (at + 4)) (le 4 s at) ≡ Whole kind n = rw (le-ltb (length s - at) 6 (omega arith), le-ltb (length s - (at + 6)) (le 4 s at) (omega arith), record_at) at e in
-        let o : le 4 s at ≡ n = cc in
+        let z : ◌≡◌ {A = ℕ × ℕ} (le 2 s (at + 4), le 4 s at) (kind, n) = same_Some _ _ (rw (le-ltb (length s - at) 6 (omega arith), le-ltb (length s - (at + 6)) (le 4 s at) (omega arith), record_at) at e) in
+        let o : le 4 s at ≡ n = ap {A = ℕ × ℕ} (λ p. p.1) z in
         omega arith
   ]
 ]
@@ -75,8 +72,8 @@ enough (suc f) zero s at a b = rw (le-leb (length s) at (omega arith), lines_fro
 enough (suc f) (suc g) s at a b = elim (dec_le (length s) at) [
   | yes h ↦ rw (le-leb (length s) at h, lines_from)
   | no h ↦ elim (is (record_at s at) refl) [
-    | is Cut p ↦ rw (lt-leb (length s) at (omega arith), p, lines_from)
-    | is (Whole kind n) p ↦ rw (lt-leb (length s) at (omega arith), p, lines_from, enough f g s (at + 6 + n) (omega arith) (omega arith))
+    | is None p ↦ rw (lt-leb (length s) at (omega arith), p, lines_from)
+    | is (Some (kind, n)) p ↦ rw (lt-leb (length s) at (omega arith), p, lines_from, enough f g s (at + 6 + n) (omega arith) (omega arith))
   ]
 ]
 
@@ -86,12 +83,12 @@ unfolding lines_from
 rest-none s at h = enough (length s) 0 s at (omega arith) (omega arith)
 
 -- a cut record is the last
-pub rest-cut : (s : List ℕ) (at : ℕ) → at < length s → record_at s at ≡ Cut → lines_from (length s) s at ≡ cut_line at
+pub rest-cut : (s : List ℕ) (at : ℕ) → at < length s → record_at s at ≡ None → lines_from (length s) s at ≡ cut_line at
 unfolding lines_from
 rest-cut s at h p = enough (length s) (suc (length s)) s at (omega arith) (omega arith) ∙ rw (lt-leb (length s) at h, p, lines_from)
 
 -- a whole record gives its line, and the records behind it follow
-pub rest-whole : (s : List ℕ) (at kind n : ℕ) → at < length s → record_at s at ≡ Whole kind n
+pub rest-whole : (s : List ℕ) (at kind n : ℕ) → at < length s → record_at s at ≡ Some (kind, n)
     → lines_from (length s) s at ≡ line at kind n ++ lines_from (length s) s (at + 6 + n)
 unfolding lines_from
 rest-whole s at kind n h p = enough (length s) (suc (length s)) s at (omega arith) (omega arith) ∙ rw (lt-leb (length s) at h, p, lines_from)

@@ -1,4 +1,5 @@
 -- What a memo's table of stamps and values has for each key.
+use Rattle.std.specs.Prelude.{Option as Optional, Some, None}
 use Rattle.std.specs.Prelude.{◌≡◌, refl, true, false, List, [], ◌∷◌, ℕ, zero, suc, ◌+◌, ◌*◌, ◌/◌, ◌≤◌, ◌<◌, eqb, length, get_or, set, replicate}
 use Rattle.std.proofs.Common.{sym, ap, ap₂, ◌∙◌, arith, eq-eqb, ne_eqb, get_or-set_same, get_or-set_other}
 use Rattle.std.proofs.Math.Option.{Option, none, some}
@@ -6,8 +7,6 @@ use Rattle.std.proofs.Math.Decide.{ℕ_discrete}
 use Rattle.std.proofs.lemmas.List.{length-replicate}
 use Rattle.base.specs.Listed.{only_at}
 use Rattle.memo.specs.declared.memo.Memo.{Memo}
-use Rattle.memo.specs.declared.memo.Known.{Known}
-use Rattle.memo.specs.declared.memo.Known.TheVariants.{Value, Nothing}
 
 -- a value counts where its stamp is the one in force
 unfoldable pub entry : ℕ → ℕ → ℕ → Option ℕ
@@ -24,9 +23,9 @@ unfoldable pub recall : List ℕ → Memo → List (Option ℕ)
 unfolding recalled
 recall table m = recalled m.stamp table
 
-abbrev pub known : Known → Option ℕ
-known (Value v) = some v
-known Nothing = none
+abbrev pub known : Optional ℕ → Option ℕ
+known (Some v) = some v
+known None = none
 
 -- no stamp is later than the memo's
 pub record Remembers (table : List ℕ) (m : Memo) : Type 0 where

@@ -3,18 +3,9 @@ ghost use Rattle.std.specs.Prelude.{◌≡◌, ◌/◌, ◌<◌, length, get_or,
 ghost use Rattle.std.proofs.Math.Option.{none, some};
 ghost use Rattle.memo.specs.Recall.{recall, Remembers, known};
 
-use buffer::zero::zero_words;
-
 #[derive(Clone, Copy)]
 pub struct Memo {
     pub stamp: u32,
-}
-
-// What a memo has for a key.
-#[derive(Clone, Copy)]
-pub enum Known {
-    Value(u32),
-    Nothing,
 }
 
 impl Memo {
@@ -30,7 +21,7 @@ impl Memo {
     pub fn new(table: &mut [u32]) -> Memo
         ensures { Remembers table.new result × (recall table.new result ≡ replicate (length table.old / 2) none) }
     {
-        zero_words(table);
+        table.fill(0);
         Memo { stamp: 1 }
     }
 
@@ -46,17 +37,17 @@ impl Memo {
         Memo { stamp: stamp + 1 }
     }
 
-    // What it has for `k`.
-    pub fn get(self, table: &[u32], k: usize) -> Known
+    // What it has for `k`, if it has something.
+    pub fn get(self, table: &[u32], k: usize) -> Option<u32>
         requires { k < length (recall table.now self) }
         ensures { known result ≡ get_or (recall table.now self) k none }
     {
         let i = Memo::ENTRY * k;
         let stamp = table[i];
         if stamp == self.stamp {
-            return Known::Value(table[i + Memo::VALUE]);
+            return Some(table[i + Memo::VALUE]);
         }
-        Known::Nothing
+        None
     }
 
     // `v` for `k`.

@@ -3,7 +3,7 @@ ghost use Rattle.std.specs.Prelude.{◌≡◌, ◌≤◌, ◌<◌, length};
 ghost use Rattle.memo.specs.Recall.{recall, Remembers, known};
 ghost use Rattle.memo.specs.Lent.{lent, recall_at, Puts, Clears};
 
-use crate::memo::{Known, Memo};
+use crate::memo::Memo;
 
 // A memo without entries between `from` and `to`, whatever stands there.
 pub fn begin(work: &mut [u32], from: usize, to: usize) -> Memo
@@ -21,8 +21,8 @@ pub fn clear(work: &mut [u32], from: usize, to: usize, memo: Memo) -> Memo
     memo.clear(&mut work[from..to])
 }
 
-// What the memo between `from` and `to` has for `k`.
-pub fn get(work: &[u32], from: usize, to: usize, memo: Memo, k: usize) -> Known
+// What the memo between `from` and `to` has for `k`, if it has something.
+pub fn get(work: &[u32], from: usize, to: usize, memo: Memo, k: usize) -> Option<u32>
     requires { (from ≤ to) × (to ≤ length work.now) × (k < length (recall (lent from to work.now) memo)) }
     ensures { known result ≡ recall_at from to work.now memo k }
 {

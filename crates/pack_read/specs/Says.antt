@@ -1,4 +1,5 @@
 -- What reading in place says of the parsed pack.
+use Rattle.std.specs.Prelude.{Option, Some, None}
 use Rattle.std.specs.Prelude.{◌≡◌, refl, true, List, [], ℕ, ◌+◌, ◌*◌, ◌-◌, ◌/◌, ◌≤◌, ◌<◌, drop}
 use Rattle.std.proofs.Math.Path.{sym}
 use Rattle.std.proofs.Common.{ap, ◌∙◌, arith}
@@ -12,8 +13,6 @@ use Rattle.definition.specs.Verdict.{no_goal, no_result}
 use Rattle.definition.specs.Good.{no_cut, no_abstract}
 use Rattle.pack_tables.specs.Place.{Place, no_place, key_at}
 use Rattle.pack_tables.specs.Catalog.{records_of, keyed_kind, Cataloged, SoughtIn}
-use Rattle.pack_tables.specs.declared.region.Sought.{Sought}
-use Rattle.pack_tables.specs.declared.region.Sought.TheVariants.{At, Nowhere}
 use Rattle.pack_tables.specs.declared.catalog.Catalog.{Catalog}
 use Rattle.pack_read.specs.Body.{body_of, symbol_in, node_in, step_in, goal_in, result_in, cut_in, abstract_in}
 use Rattle.pack_read.specs.Laws.{word-from, record_inside}
@@ -34,9 +33,9 @@ abbrev pub WordOfRule : List ℕ → List ℕ → Catalog → ℕ → ℕ → �
 WordOfRule bytes work c r i v = (P : Pack) → Reads bytes (records_of work c) P → i < length (rule_words (rule_of P r)) → v ≡ get_or (rule_words (rule_of P r)) i 0
 
 -- the result that has goal g's name, in whatever pack the records are
-abbrev pub ResultOf : List ℕ → List ℕ → Catalog → ℕ → Sought → Type 0
-ResultOf bytes work c g (At i) = (P : Pack) → Reads bytes (records_of work c) P → (i < length P.results) × ((get_or P.results i no_result).name ≡ (get_or P.goals g no_goal).name)
-ResultOf bytes work c g Nowhere = (P : Pack) → Reads bytes (records_of work c) P → (i : ℕ) → i < length P.results → (get_or P.results i no_result).name ≡ (get_or P.goals g no_goal).name → ⊥
+abbrev pub ResultOf : List ℕ → List ℕ → Catalog → ℕ → Option ℕ → Type 0
+ResultOf bytes work c g (Some i) = (P : Pack) → Reads bytes (records_of work c) P → (i < length P.results) × ((get_or P.results i no_result).name ≡ (get_or P.goals g no_goal).name)
+ResultOf bytes work c g None = (P : Pack) → Reads bytes (records_of work c) P → (i : ℕ) → i < length P.results → (get_or P.results i no_result).name ≡ (get_or P.goals g no_goal).name → ⊥
 
 module _ (bytes : List ℕ) (rs : ℕ → List Place) (P : Pack) (R : Reads bytes rs P) where
   -- ---- symbols
@@ -209,10 +208,10 @@ word_inside bytes work c R r n i l e m =
     omega (arith, word_room bytes (records_of work c) R.pack R.reads r l n i e m, record_inside bytes work c 2 r R.cataloged (omega arith) l)
 
 -- the result whose key is goal g's name
-pub result-sought : (bytes work : List ℕ) (c : Catalog) (g : ℕ) (key : List ℕ) (s : Sought) → OfPack bytes work c (λ P. (get_or P.goals g no_goal).name) key → SoughtIn bytes (records_of work c 6) key s → ResultOf bytes work c g s
-result-sought bytes work c g key (At i) named S =
+pub result-sought : (bytes work : List ℕ) (c : Catalog) (g : ℕ) (key : List ℕ) (s : Option ℕ) → OfPack bytes work c (λ P. (get_or P.goals g no_goal).name) key → SoughtIn bytes (records_of work c 6) key s → ResultOf bytes work c g s
+result-sought bytes work c g key (Some i) named S =
     λ P R. (omega (arith, S.0, length_results bytes (records_of work c) P R), sym (result_named bytes (records_of work c) P R i S.0) ∙ S.1 ∙ named P R)
-result-sought bytes work c g key Nowhere named S =
+result-sought bytes work c g key None named S =
     λ P R i h e.
     let l : i < length (records_of work c 6) = omega (arith, length_results bytes (records_of work c) P R) in
     S (i, l, result_named bytes (records_of work c) P R i l ∙ e ∙ sym (named P R))

@@ -21,7 +21,7 @@ pub fn cut_outputs(pack: &[u8], work: &[u32], c: Catalog, j: usize) -> usize
     requires { Readable pack.now work.now c × (j < length (records_of work.now c 7)) }
     ensures { OfPack pack.now work.now c (λ P. length (get_or P.cuts j no_cut).outputs) result }
 {
-    (body_len(pack, work, c, Catalog::CUTS, j) - 4) / 4
+    (body_len(pack, work, c, Catalog::CUTS, j) - Field::CUT_OUTPUTS) / Field::WORD
 }
 
 // Its output position `i`.

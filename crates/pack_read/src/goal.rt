@@ -11,7 +11,6 @@ use crate::name::goal_name;
 use crate::step::step_judgment;
 use base::id::Ground;
 use pack_tables::catalog::Catalog;
-use pack_tables::region::Sought;
 
 // The judgment of goal `i`, a node.
 pub fn goal_judgment(pack: &[u8], work: &[u32], c: Catalog, i: usize) -> Ground
@@ -21,8 +20,8 @@ pub fn goal_judgment(pack: &[u8], work: &[u32], c: Catalog, i: usize) -> Ground
     Ground(body_word(pack, work, c, Catalog::GOALS, i, 0))
 }
 
-// The result that has the name of goal `g`.
-pub fn goal_result(pack: &[u8], work: &[u32], c: Catalog, g: usize) -> Sought
+// The result that has the name of goal `g`, or none.
+pub fn goal_result(pack: &[u8], work: &[u32], c: Catalog, g: usize) -> Option<usize>
     requires { Readable pack.now work.now c × (g < length (records_of work.now c 5)) }
     ensures { ResultOf pack.now work.now c g result }
 {
@@ -38,21 +37,16 @@ pub fn result_step(pack: &[u8], work: &[u32], c: Catalog, i: usize) -> u32
     body_word(pack, work, c, Catalog::RESULTS, i, 0)
 }
 
-// The step of the result that has the name of goal `g`, if it has the goal's judgment.
-pub fn goal_step(pack: &[u8], work: &[u32], c: Catalog, g: usize) -> Sought
+// The step of the result that has the name of goal `g`, if it has the goal's judgment; none where it has another, or where there is none.
+pub fn goal_step(pack: &[u8], work: &[u32], c: Catalog, g: usize) -> Option<usize>
     requires { Held pack.now work.now c × (g < length (records_of work.now c 5)) }
     ensures { StepOf pack.now work.now c g result }
 {
-    match goal_result(pack, work, c, g) {
-        Sought::At(i) => {
-            let s = result_step(pack, work, c, i) as usize;
-            if step_judgment(pack, work, c, s).0 == goal_judgment(pack, work, c, g).0 {
-                return Sought::At(s);
-            }
-            return Sought::Nowhere;
-        }
-        Sought::Nowhere => {
-            return Sought::Nowhere;
-        }
+    let i = goal_result(pack, work, c, g)?;
+    let s = result_step(pack, work, c, i) as usize;
+    if step_judgment(pack, work, c, s).0 == goal_judgment(pack, work, c, g).0 {
+        Some(s)
+    } else {
+        None
     }
 }

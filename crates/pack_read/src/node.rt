@@ -23,7 +23,7 @@ pub fn node_arity(pack: &[u8], work: &[u32], c: Catalog, n: Ground) -> usize
     requires { Readable pack.now work.now c × (n.0 < length (records_of work.now c 3)) }
     ensures { OfPack pack.now work.now c (λ P. length (node_of P n.0).args) result }
 {
-    (body_len(pack, work, c, Catalog::NODES, n.0 as usize) - 4) / 4
+    (body_len(pack, work, c, Catalog::NODES, n.0 as usize) - Field::NODE_ARGUMENTS) / Field::WORD
 }
 
 // Its argument `i`, a node.

@@ -30,7 +30,7 @@ pub fn step_refs(pack: &[u8], work: &[u32], c: Catalog, s: usize) -> usize
     requires { Readable pack.now work.now c × (s < length (records_of work.now c 4)) }
     ensures { OfPack pack.now work.now c (λ P. length (step_of P s).refs) result }
 {
-    (body_len(pack, work, c, Catalog::STEPS, s) - 8) / 4
+    (body_len(pack, work, c, Catalog::STEPS, s) - Field::STEP_REFS) / Field::WORD
 }
 
 // Its ref `i`, a step.

@@ -1,4 +1,5 @@
 -- What taking up the abstract record answers.
+use Rattle.std.specs.Prelude.{Ok, Err}
 use Rattle.std.specs.Prelude.{◌≡◌, List, ℕ, ◌+◌, ◌≤◌, ◌<◌, length}
 use Rattle.std.proofs.Math.Path.{sym}
 use Rattle.std.proofs.Common.{ap, subst, ◌∙◌, arith}
@@ -14,7 +15,7 @@ use Rattle.pack_read.specs.Body.{abstract_in}
 use Rattle.pack_read.specs.Reads.{Reads, AbstractForm, length_symbols, length_abstracts, read_abstract}
 use Rattle.pack_read.specs.Says.{OfPack}
 use Rattle.pack_reader.specs.Taking.{Reading, Whole, behind, Takes, body-at, may_enter, pushed-takes}
-use Rattle.pack_reader.specs.declared.taken.Taken.TheVariants.{Good, Bad}
+use Rattle.pack_reader.specs.declared.taken.Fault.TheVariants.{Bad}
 
 module _ (bytes work body : List ℕ) (c : Catalog) (at : ℕ) (R : Reading bytes work c at) (W : Whole bytes body at) where
   abbrev place : Place
@@ -24,14 +25,14 @@ module _ (bytes work body : List ℕ) (c : Catalog) (at : ℕ) (R : Reading byte
   rs = records_of work c
 
   -- one was given before
-  pub second-abstract : (length (rs 8) ≡ 0 → ⊥) → Takes bytes work work c 8 (behind at body) (λ P. take_abstract P body) Bad
+  pub second-abstract : (length (rs 8) ≡ 0 → ⊥) → Takes bytes work work c 8 (behind at body) (λ P. take_abstract P body) (Err Bad)
   second-abstract n P r = abstract_again P body (λ e. n (sym (length_abstracts bytes rs P r) ∙ e))
 
   module _ (none : length (rs 8) ≡ 0) where
     first : (P : Pack) → Reads bytes rs P → length P.abstracts ≡ 0
     first P r = length_abstracts bytes rs P r ∙ none
 
-    pub unlike-abstract : (length body ≡ 8 → ⊥) → Takes bytes work work c 8 (behind at body) (λ P. take_abstract P body) Bad
+    pub unlike-abstract : (length body ≡ 8 → ⊥) → Takes bytes work work c 8 (behind at body) (λ P. take_abstract P body) (Err Bad)
     unlike-abstract n P r = abstract-length P body (first P r) n
 
     module _ (whole : length body ≡ 8) where
@@ -39,21 +40,21 @@ module _ (bytes work body : List ℕ) (c : Catalog) (at : ℕ) (R : Reading byte
       body_is = body-at bytes body at (at + 6) W
 
       -- no symbol
-      pub symbolless_abstract : length (rs 1) ≤ le 4 body 0 → Takes bytes work work c 8 (behind at body) (λ P. take_abstract P body) Bad
+      pub symbolless_abstract : length (rs 1) ≤ le 4 body 0 → Takes bytes work work c 8 (behind at body) (λ P. take_abstract P body) (Err Bad)
       symbolless_abstract h P r = abstract-symbol P body (first P r) whole (omega (arith, length_symbols bytes rs P r))
 
       module _ (symbol : le 4 body 0 < length (rs 1)) (output : ℕ) (output-is : OfPack bytes work c (λ P. (symbol_of P (le 4 body 0)).output) output) where
         there : (P : Pack) → Reads bytes rs P → le 4 body 0 < length P.symbols
         there P r = omega (arith, length_symbols bytes rs P r)
 
-        pub predicate_abstract : output ≡ prop → Takes bytes work work c 8 (behind at body) (λ P. take_abstract P body) Bad
+        pub predicate_abstract : output ≡ prop → Takes bytes work work c 8 (behind at body) (λ P. take_abstract P body) (Err Bad)
         predicate_abstract e P r = abstract_predicate P body (first P r) whole (there P r) (sym (output-is P r) ∙ e)
 
         module _ (other : output ≡ prop → ⊥) (arity : ℕ) (arity-is : OfPack bytes work c (λ P. length (symbol_of P (le 4 body 0)).inputs) arity) where
           constructs : (P : Pack) → Reads bytes rs P → (symbol_of P (le 4 body 0)).output ≡ prop → ⊥
           constructs P r e = other (output-is P r ∙ e)
 
-          pub outside_abstract : arity ≤ le 4 body 4 → Takes bytes work work c 8 (behind at body) (λ P. take_abstract P body) Bad
+          pub outside_abstract : arity ≤ le 4 body 4 → Takes bytes work work c 8 (behind at body) (λ P. take_abstract P body) (Err Bad)
           outside_abstract h P r = abstract_position P body (first P r) whole (there P r) (constructs P r) (omega (arith, arity-is P r))
 
           module _ (position : le 4 body 4 < arity) where
@@ -67,7 +68,7 @@ module _ (bytes work body : List ℕ) (c : Catalog) (at : ℕ) (R : Reading byte
             unfolding abstract_in
             abstract_is = sym (ap abstract_in body_is)
 
-            pub new-abstract : (work' : List ℕ) → More bytes work work' c 8 place → Takes bytes work work' c 8 (behind at body) (λ P. take_abstract P body) Good
+            pub new-abstract : (work' : List ℕ) → More bytes work work' c 8 place → Takes bytes work work' c 8 (behind at body) (λ P. take_abstract P body) (Ok tt)
             new-abstract work' M =
                 pushed-takes bytes work work' c at (behind at body) 8 place (λ P. take_abstract P body) (λ P. with_abstract P (abstract_in (body_at bytes place))) R (omega (arith, whole))
                 (λ P r. abstract-taken P body (first P r) whole (there P r) (constructs P r) (omega (arith, arity-is P r)) ∙ ap (λ (x : Abstract). good (with_abstract P x)) abstract_is)

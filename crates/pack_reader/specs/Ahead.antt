@@ -1,4 +1,5 @@
 -- What is left of the bytes while their records are read.
+use Rattle.std.specs.Prelude.{Option, Ok}
 use Rattle.std.specs.Prelude.{◌≡◌, List, ℕ, ◌+◌, ◌-◌, ◌≤◌, ◌<◌, length, drop}
 use Rattle.std.proofs.Common.{sym, ap, subst, ◌∙◌, arith, length-drop, drop-drop}
 use Rattle.base.specs.Outside.{outside_none, outside_then}
@@ -8,8 +9,6 @@ use Rattle.pack_tables.specs.declared.catalog.Catalog.{Catalog}
 use Rattle.pack_reader.specs.Marks.{Beyond}
 use Rattle.pack_reader.specs.Walk.{Walking, Meeting, Goes}
 use Rattle.pack_reader.specs.Parsed.{tables_of, Parses, at-end}
-use Rattle.pack_reader.specs.declared.next.Next.TheVariants as next
-use Rattle.pack_reader.specs.declared.read.Parsed.TheVariants as parsed
 
 -- the tail is the bytes' last part, behind a record of the kind `last`, and what is ahead of it is in the tables
 pub record Ahead (bytes tail work work' : List ℕ) (c : Catalog) (last : ℕ) : Type 0 where
@@ -29,7 +28,7 @@ module _ (bytes tail work mid work' : List ℕ) (c : Catalog) (last : ℕ) (A : 
   at = length bytes - length tail
 
   -- a record was taken up: less is left
-  pub ahead-next : (size kind : ℕ) → Goes bytes mid work' c at (next.At size kind) → (rest : List ℕ) → rest ≡ drop size tail → Ahead bytes rest work work' c kind × (length rest < length tail)
+  pub ahead-next : (size kind : ℕ) → Goes bytes mid work' c at (Ok (size, kind)) → (rest : List ℕ) → rest ≡ drop size tail → Ahead bytes rest work work' c kind × (length rest < length tail)
   ahead-next size kind g rest e =
       let l : length rest ≡ length tail - size = ap length e ∙ length-drop size tail in
       let i : at + size ≤ length bytes = g.0.inside in
@@ -45,13 +44,13 @@ module _ (bytes tail work mid work' : List ℕ) (c : Catalog) (last : ℕ) (A : 
       )
 
   -- within what is left
-  pub ahead_within : (size kind : ℕ) → Goes bytes mid work' c at (next.At size kind) → size ≤ length tail
+  pub ahead_within : (size kind : ℕ) → Goes bytes mid work' c at (Ok (size, kind)) → size ≤ length tail
   ahead_within size kind g = omega (arith, g.0.inside, A.inside)
 
   -- where something is left, the header of the tail is met
-  pub ahead-met : (h : Header) → 0 < length tail → HeadsFirst tail last h → Meeting bytes mid c at h
+  pub ahead-met : (h : Option Header) → 0 < length tail → HeadsFirst tail last h → Meeting bytes mid c at h
   ahead-met h some H = record { last = last; walking = A.walking; some_left = omega (arith, A.inside); heads = subst (λ (xs : List ℕ). HeadsFirst xs last h) A.tail_is H }
 
 -- nothing is left
-pub ahead-end : (bytes tail work work' : List ℕ) (last : ℕ) → Ahead bytes tail work work' (tables_of (length bytes)) last → (0 < length tail → ⊥) → Parses bytes work work' parsed.Fine
+pub ahead-end : (bytes tail work work' : List ℕ) (last : ℕ) → Ahead bytes tail work work' (tables_of (length bytes)) last → (0 < length tail → ⊥) → Parses bytes work work' (Ok tt)
 ahead-end bytes tail work work' last A h = at-end bytes work work' (length bytes - length tail) last A.walking A.beyond (omega (arith, h, A.inside))

@@ -1,4 +1,5 @@
 -- What taking up a cut answers, and how it marks its predicate.
+use Rattle.std.specs.Prelude.{Ok, Err}
 use Rattle.std.specs.Prelude.{◌≡◌, refl, Bool, true, false, not, List, [], ◌∷◌, ℕ, ◌+◌, ◌*◌, ◌-◌, ◌/◌, ◌≤◌, ◌<◌, ltb, length, set, drop}
 use Rattle.std.proofs.Math.Path.{sym}
 use Rattle.std.proofs.Common.{ap, subst, ◌∙◌, arith, length-set, length-append, get_or-set_same, get_or-set_other}
@@ -20,8 +21,8 @@ use Rattle.pack_read.specs.Reads.{Reads, OneMore, CutForm, length_symbols, read_
 use Rattle.pack_read.specs.Says.{OfPack}
 use Rattle.pack_tables.specs.Name.{denied, not_denied}
 use Rattle.pack_reader.specs.Taking.{Reading, Whole, behind, body-at, may_enter, read_on}
-use Rattle.pack_reader.specs.declared.taken.Taken.TheVariants.{Good, Bad}
 use Rattle.pack_reader.specs.Marks.{marks_at, mark_of, predicate_at, Marks, Beyond, Advances, marked-cut, unmarked_cut}
+use Rattle.pack_reader.specs.declared.taken.Fault.TheVariants.{Bad}
 
 -- the number of records of a kind fits a word
 pub count_small : (bytes work : List ℕ) (c : Catalog) (k n : ℕ) → Cataloged bytes work c → n ≡ length (records_of work c k) → k < 9 → n < 1073741824
@@ -127,7 +128,7 @@ module _ (bytes work body : List ℕ) (c : Catalog) (at : ℕ) (R : Reading byte
   rs = records_of work c
 
   abbrev Refused : Type 0
-  Refused = Advances bytes work work c (behind at body) (λ P. take_cut P body) Bad
+  Refused = Advances bytes work work c (behind at body) (λ P. take_cut P body) (Err Bad)
 
   body_is : body_at bytes place ≡ body
   body_is = body-at bytes body at (at + 6) W
@@ -206,7 +207,7 @@ module _ (bytes work body : List ℕ) (c : Catalog) (at : ℕ) (R : Reading byte
               cut_of = ap (λ (b : List ℕ). le 4 b 0) body_is ∙ sym h-is
 
               -- the cut is put behind the others, and its predicate has its mark
-              marked-new : (next : List ℕ) (v : ℕ) → More bytes work next c 7 place → v ≡ length (records_of next c 7) → Advances bytes work (set next (marks_at c + h) v) c (behind at body) (λ P. take_cut P body) Good
+              marked-new : (next : List ℕ) (v : ℕ) → More bytes work next c 7 place → v ≡ length (records_of next c 7) → Advances bytes work (set next (marks_at c + h) v) c (behind at body) (λ P. take_cut P body) (Ok tt)
               marked-new next v G e = record {
                 reading = reading_done bytes work next c place M G h below unmarked v e (behind at body) (read_on bytes work next c at (behind at body) 7 place R (omega (arith, long)) G);
                 marks = marks-done bytes work next c place M G h below unmarked v e cut_of;
@@ -224,5 +225,5 @@ module _ (bytes work body : List ℕ) (c : Catalog) (at : ℕ) (R : Reading byte
                 place_there = (G.cataloged.fits, omega (arith, M.room, G.outside.long), below)
 
                 -- the mark, at the place that `mark_place` gives
-                pub new-cut : (m : ℕ) → m ≡ marks_at c + h → (v : ℕ) → v ≡ length (records_of next c 7) → Advances bytes work (set next m v) c (behind at body) (λ P. take_cut P body) Good
-                new-cut m m-is v e = subst (λ (i : ℕ). Advances bytes work (set next i v) c (behind at body) (λ P. take_cut P body) Good) (sym m-is) (marked-new next v G e)
+                pub new-cut : (m : ℕ) → m ≡ marks_at c + h → (v : ℕ) → v ≡ length (records_of next c 7) → Advances bytes work (set next m v) c (behind at body) (λ P. take_cut P body) (Ok tt)
+                new-cut m m-is v e = subst (λ (i : ℕ). Advances bytes work (set next i v) c (behind at body) (λ P. take_cut P body) (Ok tt)) (sym m-is) (marked-new next v G e)

@@ -1,4 +1,5 @@
 -- A record of any kind: what taking it up answers, by its kind.
+use Rattle.std.specs.Prelude.{Result, Ok, Err}
 use Rattle.std.specs.Prelude.{◌≡◌, List, ℕ}
 use Rattle.std.proofs.Common.{◌∙◌, arith}
 use borrow.Author.Tests.{ne_eqb}
@@ -9,22 +10,22 @@ use Rattle.definition.specs.Certificate.{take_node, take_step, take_goal, take_r
 use Rattle.definition.specs.Parse.{take_record}
 use Rattle.pack_tables.specs.declared.catalog.Catalog.{Catalog}
 use Rattle.pack_reader.specs.Taking.{Takes}
-use Rattle.pack_reader.specs.declared.taken.Taken.{Taken}
-use Rattle.pack_reader.specs.declared.taken.Taken.TheVariants.{Good, Bad, Over}
 use Rattle.pack_reader.specs.Marks.{Marks, Advances, takes_advances}
+use Rattle.pack_reader.specs.declared.taken.Fault.{Fault}
+use Rattle.pack_reader.specs.declared.taken.Fault.TheVariants.{Bad, Over}
 
 -- tests that are the same answer the same
-pub advances_by : (bytes work work' : List ℕ) (c : Catalog) (end : ℕ) (take take' : Pack → Checked Pack) (r : Taken) → ((P : Pack) → take' P ≡ take P) → Advances bytes work work' c end take r → Advances bytes work work' c end take' r
-advances_by bytes work work' c end take take' Good e A = record {
+pub advances_by : (bytes work work' : List ℕ) (c : Catalog) (end : ℕ) (take take' : Pack → Checked Pack) (r : Result (Unit {0}) Fault) → ((P : Pack) → take' P ≡ take P) → Advances bytes work work' c end take r → Advances bytes work work' c end take' r
+advances_by bytes work work' c end take take' (Ok tt) e A = record {
   reading = A.reading;
   marks = A.marks;
   beyond = A.beyond;
   says = λ P R. let s = A.says P R in (s.0, e P ∙ s.1, s.2);
 }
-advances_by bytes work work' c end take take' Bad e A = λ P R. e P ∙ A P R
-advances_by bytes work work' c end take take' Over e A = λ P R. e P ∙ A P R
+advances_by bytes work work' c end take take' (Err Bad) e A = λ P R. e P ∙ A P R
+advances_by bytes work work' c end take take' (Err Over) e A = λ P R. e P ∙ A P R
 
-module _ (bytes work work' body : List ℕ) (c : Catalog) (end : ℕ) (M : Marks bytes work c) (r : Taken) where
+module _ (bytes work work' body : List ℕ) (c : Catalog) (end : ℕ) (M : Marks bytes work c) (r : Result (Unit {0}) Fault) where
   -- the definition's test of a record of kind k
   abbrev taken_as : ℕ → Pack → Checked Pack
   taken_as k P = take_record P (record { kind = k; body = body })

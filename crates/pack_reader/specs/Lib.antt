@@ -3,6 +3,8 @@ pub mod Terms
 pub mod Reading
 pub mod TermsTurns
 pub mod TermsRun
+-- The refusal that a fault is.
+pub mod Fault
 -- What the reader holds between two records, and what taking up one of the theory answers.
 pub mod Taking
 pub mod Sound

@@ -1,5 +1,6 @@
 -- The marks of cut predicates: behind the regions of records stands a word a symbol, 0 or the number of its cut and one. What taking up
 -- a record of any kind answers, with them.
+use Rattle.std.specs.Prelude.{Result, Ok, Err}
 use Rattle.std.specs.Prelude.{◌≡◌, true, false, List, ℕ, ◌+◌, ◌*◌, ◌-◌, ◌≤◌, ◌<◌, eqb, length, get_or}
 use Rattle.std.proofs.Common.{sym, ◌∙◌, arith, eqb-true, eq-eqb}
 use Rattle.std.proofs.Math.Path.{ap}
@@ -17,8 +18,8 @@ use Rattle.pack_tables.specs.declared.catalog.Catalog.{Catalog}
 use Rattle.pack_read.specs.Body.{body_of, cut_in}
 use Rattle.pack_read.specs.Reads.{Reads, OneMore, cut_of, length_cuts}
 use Rattle.pack_reader.specs.Taking.{Reading, Takes}
-use Rattle.pack_reader.specs.declared.taken.Taken.{Taken}
-use Rattle.pack_reader.specs.declared.taken.Taken.TheVariants.{Good, Bad, Over}
+use Rattle.pack_reader.specs.declared.taken.Fault.{Fault}
+use Rattle.pack_reader.specs.declared.taken.Fault.TheVariants.{Bad, Over}
 
 abbrev pub marks_at : Catalog → ℕ
 marks_at c = c.at + 9 * size_for c.cap
@@ -88,18 +89,18 @@ pub record Advanced (bytes work work' : List ℕ) (c : Catalog) (end : ℕ) (tak
   pub says : (P : Pack) → Reads bytes (records_of work c) P → (Q : Pack) × (take P ≡ good Q) × Reads bytes (records_of work' c) Q
 
 -- what taking up a record of any kind answers, if `take` is the definition's test of it
-abbrev pub Advances : List ℕ → List ℕ → List ℕ → Catalog → ℕ → (Pack → Checked Pack) → Taken → Type 0
-Advances bytes work work' c end take Good = Advanced bytes work work' c end take
-Advances bytes work work' c end take Bad = (P : Pack) → Reads bytes (records_of work c) P → take P ≡ bad
-Advances bytes work work' c end take Over = (P : Pack) → Reads bytes (records_of work c) P → take P ≡ over
+abbrev pub Advances : List ℕ → List ℕ → List ℕ → Catalog → ℕ → (Pack → Checked Pack) → Result (Unit {0}) Fault → Type 0
+Advances bytes work work' c end take (Ok tt) = Advanced bytes work work' c end take
+Advances bytes work work' c end take (Err Bad) = (P : Pack) → Reads bytes (records_of work c) P → take P ≡ bad
+Advances bytes work work' c end take (Err Over) = (P : Pack) → Reads bytes (records_of work c) P → take P ≡ over
 
 -- a record that is no cut
-pub takes_advances : (bytes work work' : List ℕ) (c : Catalog) (k end : ℕ) (take : Pack → Checked Pack) (r : Taken) → Marks bytes work c → (k ≡ 7 → ⊥) → Takes bytes work work' c k end take r → Advances bytes work work' c end take r
-takes_advances bytes work work' c k end take Good M d T = record {
+pub takes_advances : (bytes work work' : List ℕ) (c : Catalog) (k end : ℕ) (take : Pack → Checked Pack) (r : Result (Unit {0}) Fault) → Marks bytes work c → (k ≡ 7 → ⊥) → Takes bytes work work' c k end take r → Advances bytes work work' c end take r
+takes_advances bytes work work' c k end take (Ok tt) M d T = record {
   reading = T.reading;
   marks = marks-kept bytes work work' c k T.place M d T.more T.outside;
   beyond = outside_wider c.at (c.at + 9 * size_for c.cap) c.at (marks_at c + c.cap) work work' (omega arith) (omega arith) T.outside;
   says = T.says;
 }
-takes_advances bytes work work' c k end take Bad M d T = T
-takes_advances bytes work work' c k end take Over M d T = T
+takes_advances bytes work work' c k end take (Err Bad) M d T = T
+takes_advances bytes work work' c k end take (Err Over) M d T = T

@@ -1,4 +1,5 @@
 -- What taking up a ground node answers.
+use Rattle.std.specs.Prelude.{Ok, Err}
 use Rattle.std.specs.Prelude.{◌≡◌, refl, Bool, true, false, not, List, ◌++◌, ℕ, suc, ◌+◌, ◌*◌, ◌-◌, ◌/◌, ◌≤◌, ◌<◌, length, get_or, drop}
 use Rattle.std.proofs.Common.{sym, ap, ◌∙◌, subst, arith}
 use Rattle.definition.specs.Test.{any}
@@ -22,7 +23,7 @@ use Rattle.pack_read.specs.Says.{OfPack, arity_read}
 use Rattle.pack_tables.specs.Name.{denied, not_denied}
 use Rattle.pack_reader.specs.Taking.{Reading, Whole, behind, Takes, body-at, key-at, may_enter, entered_takes, refused-takes}
 use Rattle.pack_reader.specs.Sound.{Sound, body_bytes}
-use Rattle.pack_reader.specs.declared.taken.Taken.TheVariants.{Good, Bad}
+use Rattle.pack_reader.specs.declared.taken.Fault.TheVariants.{Bad}
 
 -- ---- the arguments one by one
 pub record Asks (bytes work body : List ℕ) (c : Catalog) (head arity : ℕ) : Type 0 where
@@ -118,11 +119,11 @@ module _ (bytes work body : List ℕ) (c : Catalog) (at : ℕ) (R : Reading byte
   body_is : body_at bytes place ≡ body
   body_is = body-at bytes body at (at + 6) W
 
-  pub bad_short : length body < 4 → Takes bytes work work c 3 (behind at body) (λ P. take_node P body) Bad
+  pub bad_short : length body < 4 → Takes bytes work work c 3 (behind at body) (λ P. take_node P body) (Err Bad)
   bad_short h P r = node_short P body h
 
   module _ (long : 4 ≤ length body) (head : ℕ) (head_is : head ≡ le 4 body 0) where
-    pub bad_head : length (rs 1) ≤ head → Takes bytes work work c 3 (behind at body) (λ P. take_node P body) Bad
+    pub bad_head : length (rs 1) ≤ head → Takes bytes work work c 3 (behind at body) (λ P. take_node P body) (Err Bad)
     bad_head h P r = node-head P body long (omega (arith, length_symbols bytes rs P r))
 
     module _ (symbol : head < length (rs 1)) (arity : ℕ) (many : OfPack bytes work c (λ P. length (symbol_of P head).inputs) arity) where
@@ -137,7 +138,7 @@ module _ (bytes work body : List ℕ) (c : Catalog) (at : ℕ) (R : Reading byte
       few_inputs =
           omega (arith, R.short, many S.pack S.reads, arity_read bytes rs S.pack S.reads head symbol, (S.reads.symbols.form head symbol).0, record_inside bytes work c 1 head R.cataloged (omega arith) symbol)
 
-      pub bad_length : (length body ≡ 4 + 4 * arity → ⊥) → Takes bytes work work c 3 (behind at body) (λ P. take_node P body) Bad
+      pub bad_length : (length body ≡ 4 + 4 * arity → ⊥) → Takes bytes work work c 3 (behind at body) (λ P. take_node P body) (Err Bad)
       bad_length d P r = node-length P body long (headed P r) (λ e. d (e ∙ ap (λ (k : ℕ). 4 + 4 * k) (inputs_are P r)))
 
       module _ (whole : length body ≡ 4 + 4 * arity) where
@@ -154,7 +155,7 @@ module _ (bytes work body : List ℕ) (c : Catalog) (at : ℕ) (R : Reading byte
             ∙ sym (F P r)
 
         -- the answer, which code negates
-        pub bad_arguments : (t : Bool) → Fit bytes work body c head arity t → not t ≡ true → Takes bytes work work c 3 (behind at body) (λ P. take_node P body) Bad
+        pub bad_arguments : (t : Bool) → Fit bytes work body c head arity t → not t ≡ true → Takes bytes work work c 3 (behind at body) (λ P. take_node P body) (Err Bad)
         bad_arguments t F n P r = node_arguments P body long (headed P r) (whole-at P r) (denied t _ (sym (fit_at t F P r)) n)
 
         module _ (t : Bool) (F : Fit bytes work body c head arity t) (n : not t ≡ false) where
@@ -192,13 +193,13 @@ module _ (bytes work body : List ℕ) (c : Catalog) (at : ℕ) (R : Reading byte
                   ∙ same_bodies (body_of bytes (rs 3) i) (body_at bytes place) (body_bytes bytes _ S.octets) (body_bytes bytes place S.octets) F.2 form.2 (sym (node_at P r i l) ∙ e ∙ sym (node_is P r))
                   ∙ sym form.1
 
-          pub new-node : (work' : List ℕ) → EntersIn bytes work work' c 3 place New → Takes bytes work work' c 3 (behind at body) (λ P. take_node P body) Good
+          pub new-node : (work' : List ℕ) → EntersIn bytes work work' c 3 place New → Takes bytes work work' c 3 (behind at body) (λ P. take_node P body) (Ok tt)
           new-node work' =
               entered_takes bytes work work' c at (behind at body) 3 place (λ P. take_node P body) (λ P. with_node P (node_in (body_at bytes place))) R (omega (arith, long))
               (λ P r none. node-taken P body long (headed P r) (whole-at P r) (fit P r) (node-not_there P r none) ∙ ap (λ (x : Node). good (with_node P x)) (sym (node_is P r)))
               (λ P r M. read_node bytes rs (records_of work' c) P r place M form)
 
-          pub old-node : (work' : List ℕ) → EntersIn bytes work work' c 3 place Old → Takes bytes work work' c 3 (behind at body) (λ P. take_node P body) Bad
+          pub old-node : (work' : List ℕ) → EntersIn bytes work work' c 3 place Old → Takes bytes work work' c 3 (behind at body) (λ P. take_node P body) (Err Bad)
           old-node work' =
               refused-takes bytes work work' c (behind at body) 3 place (λ P. take_node P body)
               (λ P r f. node_again P body long (headed P r) (whole-at P r) (fit P r) (node_there P r f))

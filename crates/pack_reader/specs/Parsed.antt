@@ -1,10 +1,11 @@
 -- The whole pack: the tables that represent it, and what reading it answers.
+use Rattle.std.specs.Prelude.{Result, Ok, Err}
 use Rattle.std.specs.Prelude.{◌≡◌, refl, List, ℕ, ◌+◌, ◌-◌, ◌/◌, ◌≤◌, ◌<◌, get_or, take, drop, replicate}
 use Rattle.std.proofs.Common.{sym, subst, ◌∙◌, arith, length-drop}
 use Rattle.std.proofs.Math.Path.{ap}
 use Rattle.std.proofs.Math.ListN.{length}
 use Rattle.std.proofs.lemmas.List.{length-replicate, get_or-replicate}
-use Rattle.definition.specs.declared.Refusal.TheVariants.{Form, Limit}
+use Rattle.definition.specs.declared.Refusal.{Refusal}
 use Rattle.definition.specs.Pack.{Pack, empty}
 use Rattle.definition.specs.Frame.{fine, refuse}
 use Rattle.definition.specs.Parse.{kinds, take_record, parse}
@@ -18,8 +19,6 @@ use Rattle.pack_read.specs.Reads.{Reads, read_none}
 use Rattle.pack_reader.specs.Taking.{Reading}
 use Rattle.pack_reader.specs.Marks.{Marks, marks_at, Beyond}
 use Rattle.pack_reader.specs.Walk.{Walking}
-use Rattle.pack_reader.specs.declared.read.Parsed.{Parsed}
-use Rattle.pack_reader.specs.declared.read.Parsed.TheVariants as parsed
 
 -- the tables of a pack of n bytes: from the start of work on, with room for a record each seven bytes
 abbrev pub tables_of : ℕ → Catalog
@@ -37,10 +36,9 @@ pub record Represents (bytes work : List ℕ) (P : Pack) : Type 0 where
   pub reads : Reads bytes (records_of work (tables_of (length bytes))) P
 
 -- what reading a pack answers
-abbrev pub Parses : List ℕ → List ℕ → List ℕ → Parsed → Type 0
-Parses bytes work work' parsed.Fine = (P : Pack) × (parse bytes ≡ fine P) × Represents bytes work' P × Beyond work work' (tables_of (length bytes))
-Parses bytes work work' (parsed.Form at) = parse bytes ≡ refuse (Form at)
-Parses bytes work work' (parsed.Limit at) = parse bytes ≡ refuse (Limit at)
+abbrev pub Parses : List ℕ → List ℕ → List ℕ → Result (Unit {0}) Refusal → Type 0
+Parses bytes work work' (Ok tt) = (P : Pack) × (parse bytes ≡ fine P) × Represents bytes work' P × Beyond work work' (tables_of (length bytes))
+Parses bytes work work' (Err r) = parse bytes ≡ refuse r
 
 pub room_fits : (bytes work : List ℕ) → Room bytes work → Fits work (tables_of (length bytes))
 room_fits bytes work R = record { small = omega (arith, R.short); fits = omega (arith, R.fits) }
@@ -88,7 +86,7 @@ module _ (bytes work work' : List ℕ) (R : Room bytes work) (octets : (i : ℕ)
       (subst (λ (x : List ℕ). Cleared x work' c) f C)
 
 -- behind the last record
-pub at-end : (bytes work work' : List ℕ) (at last : ℕ) → Walking bytes work' (tables_of (length bytes)) at last → Beyond work work' (tables_of (length bytes)) → length bytes ≤ at → Parses bytes work work' parsed.Fine
+pub at-end : (bytes work work' : List ℕ) (at last : ℕ) → Walking bytes work' (tables_of (length bytes)) at last → Beyond work work' (tables_of (length bytes)) → length bytes ≤ at → Parses bytes work work' (Ok tt)
 at-end bytes work work' at last W B l =
     let e : at ≡ length bytes = omega (arith, W.inside) in (
       W.pack,
@@ -98,7 +96,6 @@ at-end bytes work work' at last W B l =
     )
 
 -- what was changed before the first record
-pub parses_from : (bytes work mid work' : List ℕ) (r : Parsed) → Beyond work mid (tables_of (length bytes)) → Parses bytes mid work' r → Parses bytes work work' r
-parses_from bytes work mid work' parsed.Fine B P = (P.0, P.1, P.2, outside_then 0 (marks_at (tables_of (length bytes)) + (tables_of (length bytes)).cap) work mid work' B P.3)
-parses_from bytes work mid work' (parsed.Form at) B P = P
-parses_from bytes work mid work' (parsed.Limit at) B P = P
+pub parses_from : (bytes work mid work' : List ℕ) (r : Result (Unit {0}) Refusal) → Beyond work mid (tables_of (length bytes)) → Parses bytes mid work' r → Parses bytes work work' r
+parses_from bytes work mid work' (Ok tt) B P = (P.0, P.1, P.2, outside_then 0 (marks_at (tables_of (length bytes)) + (tables_of (length bytes)).cap) work mid work' B P.3)
+parses_from bytes work mid work' (Err r) B P = P

@@ -1,4 +1,5 @@
 -- What the functions that read a rule's terms ask and answer.
+use Rattle.std.specs.Prelude.{Option, Some, None}
 use Rattle.std.specs.Prelude.{◌≡◌, refl, Bool, true, false, List, [], ◌∷◌, ◌++◌, ℕ, ◌+◌, ◌*◌, ◌-◌, ◌≤◌, ◌<◌, eqb, length, get_or, set, drop}
 use Rattle.std.proofs.Common.{sym, ap, ◌∙◌, arith, lt-ltb, le-ltb, length-set, get_or-set_same, get_or-set_other}
 use Rattle.std.proofs.Math.Decide.{ℕ_discrete}
@@ -15,8 +16,6 @@ use Rattle.pack_read.specs.Reads.{Reads, length_symbols}
 use Rattle.pack_read.specs.Says.{arity_read}
 use Rattle.pack_reader.specs.Terms.{frame_symbol, frame_next, wanted_by, wanted-judgment, wanted-none, wanted_argument, frame-done, frame_on, frame-more, fits-variable, fits-symbol, wanted-variable, wanted-symbol}
 use Rattle.pack_reader.specs.declared.terms.Point.{Point}
-use Rattle.pack_reader.specs.declared.terms.Want.{Want}
-use Rattle.pack_reader.specs.declared.terms.Want.TheVariants.{Sort, Done}
 
 -- each of n frames is a symbol with an argument to come
 pub record Stacked (bytes : List ℕ) (rs : ℕ → List Place) (fs : List ℕ) (n : ℕ) : Type 0 where
@@ -33,12 +32,12 @@ pub record Wanted (bytes : List ℕ) (rs : ℕ → List Place) (fs fs' : List �
   pub stacked : Stacked bytes rs fs' q.frames
   pub wants : (P : Pack) → Reads bytes rs P → wanted_by P fs p.frames p.left ≡ s ∷ wanted_by P fs' q.frames q.left
 
-abbrev pub Wants : List ℕ → (ℕ → List Place) → List ℕ → List ℕ → Point → Want → Type 0
-Wants bytes rs fs fs' p (Sort s q) = Wanted bytes rs fs fs' p s q
-Wants bytes rs fs fs' p Done = (P : Pack) → Reads bytes rs P → wanted_by P fs p.frames p.left ≡ []
+abbrev pub Wants : List ℕ → (ℕ → List Place) → List ℕ → List ℕ → Point → Option (ℕ × Point) → Type 0
+Wants bytes rs fs fs' p (Some (s, q)) = Wanted bytes rs fs fs' p s q
+Wants bytes rs fs fs' p None = (P : Pack) → Reads bytes rs P → wanted_by P fs p.frames p.left ≡ []
 
 module _ (bytes : List ℕ) (rs : ℕ → List Place) (fs : List ℕ) (p : Point) (S : Stacked bytes rs fs p.frames) where
-  pub no_more : p.frames ≡ 0 → p.left ≡ 0 → Wants bytes rs fs fs p Done
+  pub no_more : p.frames ≡ 0 → p.left ≡ 0 → Wants bytes rs fs fs p None
   no_more e f P r = rw (e, f) (wanted-none P fs)
 
   pub a_judgment : (q : Point) → q.at ≡ p.at → q.read ≡ p.read → q.frames ≡ 0 → p.frames ≡ 0 → p.left ≡ q.left + 1 → Wanted bytes rs fs fs p prop q

@@ -1,4 +1,5 @@
 -- What taking up a result answers.
+use Rattle.std.specs.Prelude.{Ok, Err}
 use Rattle.std.specs.Prelude.{◌≡◌, true, false, List, map, ℕ, ◌+◌, ◌≤◌, ◌<◌, length, drop}
 use Rattle.std.proofs.Common.{sym, ◌∙◌, arith}
 use Rattle.std.proofs.Math.Path.{ap}
@@ -16,7 +17,7 @@ use Rattle.pack_read.specs.Body.{result_in}
 use Rattle.pack_read.specs.Reads.{Reads, GoalForm, length_steps, read_result}
 use Rattle.pack_reader.specs.Taking.{Reading, Whole, behind, Takes, body-at, key-at, may_enter, entered_takes, refused-takes, Names, names_there, names_not_there}
 use Rattle.pack_reader.specs.Named.{listed_names}
-use Rattle.pack_reader.specs.declared.taken.Taken.TheVariants.{Good, Bad}
+use Rattle.pack_reader.specs.declared.taken.Fault.TheVariants.{Bad}
 
 module _ (bytes work body : List ℕ) (c : Catalog) (at : ℕ) (R : Reading bytes work c at) (W : Whole bytes body at) where
   abbrev place : Place
@@ -30,7 +31,7 @@ module _ (bytes work body : List ℕ) (c : Catalog) (at : ℕ) (R : Reading byte
   names P r = listed_names bytes (λ p. result_in (body_at bytes p)) (GoalForm bytes) (λ y. y.name) P.results (rs 6) (λ p F. F.1) r.results
 
   -- the step is cut
-  pub short_result : length body < 4 → Takes bytes work work c 6 (behind at body) (λ P. take_result P body) Bad
+  pub short_result : length body < 4 → Takes bytes work work c 6 (behind at body) (λ P. take_result P body) (Err Bad)
   short_result h P r = result_short P body h
 
   module _ (long : 4 ≤ length body) where
@@ -48,27 +49,27 @@ module _ (bytes work body : List ℕ) (c : Catalog) (at : ℕ) (R : Reading byte
     result_is = ap result_in body_is
 
     -- no step
-    pub stepless_result : length (rs 4) ≤ le 4 body 0 → Takes bytes work work c 6 (behind at body) (λ P. take_result P body) Bad
+    pub stepless_result : length (rs 4) ≤ le 4 body 0 → Takes bytes work work c 6 (behind at body) (λ P. take_result P body) (Err Bad)
     stepless_result h P r = result-step P body long (omega (arith, length_steps bytes rs P r))
 
     module _ (step : le 4 body 0 < length (rs 4)) where
       stepped : (P : Pack) → Reads bytes rs P → le 4 body 0 < length P.steps
       stepped P r = omega (arith, length_steps bytes rs P r)
 
-      pub misnamed_result : is_name (drop 4 body) ≡ false → Takes bytes work work c 6 (behind at body) (λ P. take_result P body) Bad
+      pub misnamed_result : is_name (drop 4 body) ≡ false → Takes bytes work work c 6 (behind at body) (λ P. take_result P body) (Err Bad)
       misnamed_result e P r = result_misnamed P body long (stepped P r) e
 
       module _ (named : is_name (drop 4 body) ≡ true) where
         pub enter_result : EnteringIn bytes work c 6 place
         enter_result = may_enter bytes work body c at 6 4 R W (omega arith) long (omega arith) (λ h. absurd (omega arith))
 
-        pub new-result : (work' : List ℕ) → EntersIn bytes work work' c 6 place New → Takes bytes work work' c 6 (behind at body) (λ P. take_result P body) Good
+        pub new-result : (work' : List ℕ) → EntersIn bytes work work' c 6 place New → Takes bytes work work' c 6 (behind at body) (λ P. take_result P body) (Ok tt)
         new-result work' =
             entered_takes bytes work work' c at (behind at body) 6 place (λ P. take_result P body) (λ P. with_result P (result_in (body_at bytes place))) R (omega arith)
             (λ P r n. result-taken P body long (stepped P r) named (names_not_there bytes _ (rs 6) (drop 4 body) (names P r) (λ f. n (f.0, f.1, f.2 ∙ sym key_is))) ∙ ap (λ (y : Result). good (with_result P y)) (sym result_is))
             (λ P r M. read_result bytes rs (records_of work' c) P r place M form)
 
-        pub old-result : (work' : List ℕ) → EntersIn bytes work work' c 6 place Old → Takes bytes work work' c 6 (behind at body) (λ P. take_result P body) Bad
+        pub old-result : (work' : List ℕ) → EntersIn bytes work work' c 6 place Old → Takes bytes work work' c 6 (behind at body) (λ P. take_result P body) (Err Bad)
         old-result work' =
             refused-takes bytes work work' c (behind at body) 6 place (λ P. take_result P body)
             (λ P r f. result_again P body long (stepped P r) named (names_there bytes _ (rs 6) (drop 4 body) (names P r) (f.0, f.1, f.2 ∙ key_is)))

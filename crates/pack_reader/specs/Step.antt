@@ -1,4 +1,5 @@
 -- What taking up a step answers.
+use Rattle.std.specs.Prelude.{Ok, Err}
 use Rattle.std.specs.Prelude.{◌≡◌, Bool, true, false, not, List, ℕ, ◌+◌, ◌*◌, ◌-◌, ◌/◌, ◌≤◌, ◌<◌, ltb, length, drop}
 use Rattle.std.proofs.Math.Path.{sym}
 use Rattle.std.proofs.Common.{ap, ◌∙◌, subst, arith}
@@ -19,7 +20,7 @@ use Rattle.pack_read.specs.Says.{OfPack}
 use Rattle.pack_tables.specs.Name.{denied, not_denied}
 use Rattle.pack_reader.specs.Taking.{Reading, Whole, behind, Takes, body-at, may_enter, pushed-takes}
 use Rattle.pack_reader.specs.Sound.{Sound}
-use Rattle.pack_reader.specs.declared.taken.Taken.TheVariants.{Good, Bad}
+use Rattle.pack_reader.specs.declared.taken.Fault.TheVariants.{Bad}
 
 -- the step that a body gives, by its number of refs
 abbrev step_by_of : ℕ → List ℕ → Step
@@ -51,18 +52,18 @@ module _ (bytes work body : List ℕ) (c : Catalog) (at : ℕ) (R : Reading byte
   unfolding rule_of
   premises_are i n h e P r = (r.rules.each i h).premises ∙ sym e
 
-  pub bad_short : length body < 8 → Takes bytes work work c 4 (behind at body) (λ P. take_step P body) Bad
+  pub bad_short : length body < 8 → Takes bytes work work c 4 (behind at body) (λ P. take_step P body) (Err Bad)
   bad_short h P r = step_short P body h
 
   module _ (long : 8 ≤ length body) (rule : ℕ) (rule-is : rule ≡ le 4 body 0) where
-    pub bad_rule : length (rs 2) ≤ rule → Takes bytes work work c 4 (behind at body) (λ P. take_step P body) Bad
+    pub bad_rule : length (rs 2) ≤ rule → Takes bytes work work c 4 (behind at body) (λ P. take_step P body) (Err Bad)
     bad_rule h P r = step-rule P body long (omega (arith, r.rules.many))
 
     module _ (given : rule < length (rs 2)) (judgment : ℕ) (judgment_is : judgment ≡ le 4 body 4) where
       ruled : (P : Pack) → Reads bytes rs P → le 4 body 0 < length P.rules
       ruled P r = omega (arith, r.rules.many)
 
-      pub bad_node : length (rs 3) ≤ judgment → Takes bytes work work c 4 (behind at body) (λ P. take_step P body) Bad
+      pub bad_node : length (rs 3) ≤ judgment → Takes bytes work work c 4 (behind at body) (λ P. take_step P body) (Err Bad)
       bad_node h P r = step-node P body long (ruled P r) (omega (arith, length-nodes bytes rs P r))
 
       module _ (node : judgment < length (rs 3)) (s : ℕ) (sort : OfPack bytes work c (λ P. sort_of P judgment) s) where
@@ -72,7 +73,7 @@ module _ (bytes work body : List ℕ) (c : Catalog) (at : ℕ) (R : Reading byte
         sort_is : (P : Pack) → Reads bytes rs P → sort_of P (le 4 body 4) ≡ s
         sort_is P r = ap (sort_of P) (sym judgment_is) ∙ sym (sort P r)
 
-        pub bad_judgment : (s ≡ prop → ⊥) → Takes bytes work work c 4 (behind at body) (λ P. take_step P body) Bad
+        pub bad_judgment : (s ≡ prop → ⊥) → Takes bytes work work c 4 (behind at body) (λ P. take_step P body) (Err Bad)
         bad_judgment d P r = step-judgment P body long (ruled P r) (there P r) (λ e. d (sym (sort_is P r) ∙ e))
 
         module _ (judges : s ≡ prop) (n : ℕ) (premises : n ≡ le 2 (body_of bytes (rs 2) rule) 2) where
@@ -82,7 +83,7 @@ module _ (bytes work body : List ℕ) (c : Catalog) (at : ℕ) (R : Reading byte
           count_is : (P : Pack) → Reads bytes rs P → count (rule_of P (le 4 body 0)).premises ≡ n
           count_is P r = ap (λ (i : ℕ). count (rule_of P i).premises) (sym rule-is) ∙ premises_are rule n given premises P r
 
-          pub bad_length : (length body ≡ 8 + 4 * n → ⊥) → Takes bytes work work c 4 (behind at body) (λ P. take_step P body) Bad
+          pub bad_length : (length body ≡ 8 + 4 * n → ⊥) → Takes bytes work work c 4 (behind at body) (λ P. take_step P body) (Err Bad)
           bad_length d P r = step-length P body long (ruled P r) (there P r) (judged P r) (λ e. d (e ∙ ap (λ (k : ℕ). 8 + 4 * k) (count_is P r)))
 
           module _ (whole : length body ≡ 8 + 4 * n) (bound : ℕ) (bound-is : bound ≡ length (rs 4)) (t : Bool) (answer : t ≡ all (λ w. ltb w bound) (words n (drop 8 body))) where
@@ -95,7 +96,7 @@ module _ (bytes work body : List ℕ) (c : Catalog) (at : ℕ) (R : Reading byte
                 ∙ ap (λ (k : ℕ). all (is_step P) (words k (drop 8 body))) (sym (count_is P r))
 
             -- the answer, which code negates
-            pub bad_ref : not t ≡ true → Takes bytes work work c 4 (behind at body) (λ P. take_step P body) Bad
+            pub bad_ref : not t ≡ true → Takes bytes work work c 4 (behind at body) (λ P. take_step P body) (Err Bad)
             bad_ref d P r = step-ref P body long (ruled P r) (there P r) (judged P r) (whole-at P r) (denied t _ (refs_are P r) d)
 
             module _ (refs : not t ≡ false) where
@@ -108,7 +109,7 @@ module _ (bytes work body : List ℕ) (c : Catalog) (at : ℕ) (R : Reading byte
               step_is : (P : Pack) → Reads bytes rs P → step_by_of (count (rule_of P (le 4 body 0)).premises) body ≡ step_in (body_at bytes place)
               step_is P r = sym (ap step_in body_is ∙ step_by _ body (whole-at P r))
 
-              pub new-step : (work' : List ℕ) → More bytes work work' c 4 place → Takes bytes work work' c 4 (behind at body) (λ P. take_step P body) Good
+              pub new-step : (work' : List ℕ) → More bytes work work' c 4 place → Takes bytes work work' c 4 (behind at body) (λ P. take_step P body) (Ok tt)
               new-step work' M =
                   pushed-takes bytes work work' c at (behind at body) 4 place (λ P. take_step P body) (λ P. with_step P (step_in (body_at bytes place))) R (omega (arith, long))
                   (λ P r. step-taken P body long (ruled P r) (there P r) (judged P r) (whole-at P r) (not_denied t _ (refs_are P r) refs) ∙ ap (λ (x : Step). good (with_step P x)) (step_is P r))

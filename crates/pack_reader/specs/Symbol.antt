@@ -1,4 +1,5 @@
 -- What taking up a symbol answers.
+use Rattle.std.specs.Prelude.{Result, Ok, Err}
 use Rattle.std.specs.Prelude.{◌≡◌, Bool, true, false, not, List, map, ℕ, ◌+◌, ◌*◌, ◌≤◌, ◌<◌, ltb, length, drop}
 use Rattle.std.proofs.Common.{sym, ◌∙◌, arith, ne_eqb}
 use Rattle.std.proofs.Math.Path.{ap}
@@ -18,9 +19,8 @@ use Rattle.pack_read.specs.Reads.{Reads, SymbolForm, length-sorts, length_symbol
 use Rattle.pack_tables.specs.Name.{denied, not_denied}
 use Rattle.pack_reader.specs.Taking.{Reading, Whole, behind, Takes, body-at, key-at, may_enter, entered_takes, refused-takes, Names, names_there, names_not_there}
 use Rattle.pack_reader.specs.Named.{listed_names}
-use Rattle.pack_reader.specs.declared.symbol.Shape.{Shape}
-use Rattle.pack_reader.specs.declared.symbol.Shape.TheVariants.{Name, Wrong, Wide}
-use Rattle.pack_reader.specs.declared.taken.Taken.TheVariants.{Good, Bad, Over}
+use Rattle.pack_reader.specs.declared.taken.Fault.{Fault}
+use Rattle.pack_reader.specs.declared.taken.Fault.TheVariants.{Bad, Over}
 
 -- ---- an output sort, by the number of sorts
 abbrev pub OutputOf : ℕ → ℕ → Bool → Type 0
@@ -44,19 +44,19 @@ pub record Formed (body : List ℕ) (sorts n : ℕ) : Type 0 where
   pub inputs : (P : Pack) → length P.sorts ≡ sorts → all (is_sort P) (words (le 2 body 4) (drop 6 body)) ≡ true
   pub named : is_name (drop (6 + 4 * le 2 body 4) body) ≡ true
 
-abbrev pub Shapes : List ℕ → ℕ → Shape → Type 0
-Shapes body sorts (Name n) = Formed body sorts n
-Shapes body sorts Wrong = (P : Pack) → length P.sorts ≡ sorts → length P.symbols < 4096 → take_symbol P body ≡ bad
-Shapes body sorts Wide = (P : Pack) → length P.sorts ≡ sorts → length P.symbols < 4096 → take_symbol P body ≡ over
+abbrev pub Shapes : List ℕ → ℕ → Result ℕ Fault → Type 0
+Shapes body sorts (Ok n) = Formed body sorts n
+Shapes body sorts (Err Bad) = (P : Pack) → length P.sorts ≡ sorts → length P.symbols < 4096 → take_symbol P body ≡ bad
+Shapes body sorts (Err Over) = (P : Pack) → length P.sorts ≡ sorts → length P.symbols < 4096 → take_symbol P body ≡ over
 
 module _ (body : List ℕ) (sorts : ℕ) where
   -- the fixed part is cut
-  pub short_symbol : length body < 6 → Shapes body sorts Wrong
+  pub short_symbol : length body < 6 → Shapes body sorts (Err Bad)
   short_symbol h P l few = symbol_short P body few h
 
   module _ (long : 6 ≤ length body) (a : ℕ) (arity : a ≡ le 2 body 4) where
     -- too many inputs
-    pub wide_symbol : 16 < a → Shapes body sorts Wide
+    pub wide_symbol : 16 < a → Shapes body sorts (Err Over)
     wide_symbol h P l few = symbol_wide P body few long (omega (arith, arity))
 
     module _ (few_inputs : a ≤ 16) where
@@ -64,7 +64,7 @@ module _ (body : List ℕ) (sorts : ℕ) where
       narrow = omega (arith, arity)
 
       -- the inputs are cut
-      pub cut-symbol : length body < 6 + 4 * a → Shapes body sorts Wrong
+      pub cut-symbol : length body < 6 + 4 * a → Shapes body sorts (Err Bad)
       cut-symbol h P l few = symbol-length P body few long narrow (omega (arith, arity))
 
       module _ (room : 6 + 4 * a ≤ length body) where
@@ -72,7 +72,7 @@ module _ (body : List ℕ) (sorts : ℕ) where
         whole = omega (arith, arity)
 
         -- no output sort
-        pub outless_symbol : (b : Bool) → OutputOf sorts (le 4 body 0) b → not b ≡ true → Shapes body sorts Wrong
+        pub outless_symbol : (b : Bool) → OutputOf sorts (le 4 body 0) b → not b ≡ true → Shapes body sorts (Err Bad)
         outless_symbol b o n P l few = symbol_output P body few long narrow whole (denied b _ (o P l) n)
 
         module _ (b : Bool) (is-out : OutputOf sorts (le 4 body 0) b) (not-out : not b ≡ false) where
@@ -84,7 +84,7 @@ module _ (body : List ℕ) (sorts : ℕ) where
           inputs_are P l = ap (λ (k : ℕ). all (λ w. ltb w k) (words a (drop 6 body))) (sym l) ∙ ap (λ (k : ℕ). all (λ w. ltb w (length P.sorts)) (words k (drop 6 body))) arity ∙ sym (sorts-all P _)
 
           -- an input of no sort
-          pub inless_symbol : (d : Bool) → d ≡ all (λ w. ltb w sorts) (words a (drop 6 body)) → not d ≡ true → Shapes body sorts Wrong
+          pub inless_symbol : (d : Bool) → d ≡ all (λ w. ltb w sorts) (words a (drop 6 body)) → not d ≡ true → Shapes body sorts (Err Bad)
           inless_symbol d e n P l few = symbol_input P body few long narrow whole (output P l) (denied d _ (e ∙ inputs_are P l) n)
 
           module _ (d : Bool) (is-in : d ≡ all (λ w. ltb w sorts) (words a (drop 6 body))) (not_in : not d ≡ false) where
@@ -94,7 +94,7 @@ module _ (body : List ℕ) (sorts : ℕ) where
             name_is : is_name (drop (6 + 4 * le 2 body 4) body) ≡ is_name (drop (6 + 4 * a) body)
             name_is = ap (λ (k : ℕ). is_name (drop (6 + 4 * k) body)) (sym arity)
 
-            pub misnamed_symbol : is_name (drop (6 + 4 * a) body) ≡ false → Shapes body sorts Wrong
+            pub misnamed_symbol : is_name (drop (6 + 4 * a) body) ≡ false → Shapes body sorts (Err Bad)
             misnamed_symbol e P l few = symbol_misnamed P body few long narrow whole (output P l) (inputs P l) (name_is ∙ e)
 
             pub formed_symbol : is_name (drop (6 + 4 * a) body) ≡ true → Formed body sorts (6 + 4 * a)
@@ -109,7 +109,7 @@ module _ (bytes work body : List ℕ) (c : Catalog) (at : ℕ) (R : Reading byte
   names P r = listed_names bytes (λ p. symbol_in (body_at bytes p)) (SymbolForm bytes) (λ y. y.name) P.symbols (rs 1) (λ p F. F.1) r.symbols
 
   -- no room
-  pub many-symbols : 4096 ≤ length (rs 1) → Takes bytes work work c 1 (behind at body) (λ P. take_symbol P body) Over
+  pub many-symbols : 4096 ≤ length (rs 1) → Takes bytes work work c 1 (behind at body) (λ P. take_symbol P body) (Err Over)
   many-symbols h P r = symbol-over P body (omega (arith, length_symbols bytes rs P r))
 
   module _ (room : length (rs 1) < 4096) (sorts : ℕ) (counted : sorts ≡ length (rs 0)) where
@@ -119,11 +119,15 @@ module _ (bytes work body : List ℕ) (c : Catalog) (at : ℕ) (R : Reading byte
     many : (P : Pack) → Reads bytes rs P → length P.sorts ≡ sorts
     many P r = length-sorts bytes rs P r ∙ sym counted
 
-    pub wrong_symbol : Shapes body sorts Wrong → Takes bytes work work c 1 (behind at body) (λ P. take_symbol P body) Bad
+    pub wrong_symbol : Shapes body sorts (Err Bad) → Takes bytes work work c 1 (behind at body) (λ P. take_symbol P body) (Err Bad)
     wrong_symbol S P r = S P (many P r) (few P r)
 
-    pub over-symbol : Shapes body sorts Wide → Takes bytes work work c 1 (behind at body) (λ P. take_symbol P body) Over
+    pub over-symbol : Shapes body sorts (Err Over) → Takes bytes work work c 1 (behind at body) (λ P. take_symbol P body) (Err Over)
     over-symbol S P r = S P (many P r) (few P r)
+
+    pub faulty-symbol : (f : Fault) → Shapes body sorts (Err f) → Takes bytes work work c 1 (behind at body) (λ P. take_symbol P body) (Err f)
+    faulty-symbol Bad = wrong_symbol
+    faulty-symbol Over = over-symbol
 
     module _ (n : ℕ) (F : Formed body sorts n) where
       abbrev place : Place
@@ -152,13 +156,13 @@ module _ (bytes work body : List ℕ) (c : Catalog) (at : ℕ) (R : Reading byte
       pub enter_symbol : EnteringIn bytes work c 1 place
       enter_symbol = may_enter bytes work body c at 1 n R W (omega (arith, F.long)) (omega (arith, F.start, F.whole)) (omega arith) (λ h. omega arith)
 
-      pub new-symbol : (work' : List ℕ) → EntersIn bytes work work' c 1 place New → Takes bytes work work' c 1 (behind at body) (λ P. take_symbol P body) Good
+      pub new-symbol : (work' : List ℕ) → EntersIn bytes work work' c 1 place New → Takes bytes work work' c 1 (behind at body) (λ P. take_symbol P body) (Ok tt)
       new-symbol work' =
           entered_takes bytes work work' c at (behind at body) 1 place (λ P. take_symbol P body) (λ P. with_symbol P (symbol_in (body_at bytes place))) R (omega (arith, F.long))
           (λ P r n. symbol-taken P body (few P r) F.long F.narrow F.whole (F.output P (many P r)) (F.inputs P (many P r)) F.named (names_not_there bytes _ (rs 1) name (names P r) (λ f. n (f.0, f.1, f.2 ∙ sym key_is))) ∙ ap (λ (y : Symbol). good (with_symbol P y)) (sym symbol_is))
           (λ P r M. read_symbol bytes rs (records_of work' c) P r place M form)
 
-      pub old-symbol : (work' : List ℕ) → EntersIn bytes work work' c 1 place Old → Takes bytes work work' c 1 (behind at body) (λ P. take_symbol P body) Bad
+      pub old-symbol : (work' : List ℕ) → EntersIn bytes work work' c 1 place Old → Takes bytes work work' c 1 (behind at body) (λ P. take_symbol P body) (Err Bad)
       old-symbol work' =
           refused-takes bytes work work' c (behind at body) 1 place (λ P. take_symbol P body)
           (λ P r f. symbol_again P body (few P r) F.long F.narrow F.whole (F.output P (many P r)) (F.inputs P (many P r)) F.named (names_there bytes _ (rs 1) name (names P r) (f.0, f.1, f.2 ∙ key_is)))

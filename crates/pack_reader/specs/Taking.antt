@@ -1,4 +1,5 @@
 -- What the reader holds between two records, and what taking one up answers.
+use Rattle.std.specs.Prelude.{Result, Ok, Err}
 use Rattle.std.specs.Prelude.{◌≡◌, refl, true, false, List, [], ◌∷◌, ℕ, ◌+◌, ◌*◌, ◌-◌, ◌/◌, ◌≤◌, ◌<◌, length, get_or, drop}
 use Rattle.std.proofs.Common.{sym, ap, ◌∙◌, arith, length-append, length-drop, get_or-drop}
 use Rattle.std.proofs.Math.Decide.{ℕ_discrete}
@@ -13,8 +14,8 @@ use Rattle.pack_tables.specs.Catalog.{records_of, keyed_kind, cap_room, Cataloge
 use Rattle.pack_tables.specs.declared.region.Entered.TheVariants.{New, Old}
 use Rattle.pack_tables.specs.declared.catalog.Catalog.{Catalog}
 use Rattle.pack_read.specs.Reads.{Reads, OneMore}
-use Rattle.pack_reader.specs.declared.taken.Taken.{Taken}
-use Rattle.pack_reader.specs.declared.taken.Taken.TheVariants.{Good, Bad, Over}
+use Rattle.pack_reader.specs.declared.taken.Fault.{Fault}
+use Rattle.pack_reader.specs.declared.taken.Fault.TheVariants.{Bad, Over}
 
 -- ahead of the record at `at`: the tables are of the records before it, and have room for another of any kind
 pub record Reading (bytes work : List ℕ) (c : Catalog) (at : ℕ) : Type 0 where
@@ -60,10 +61,10 @@ pub record TakenUp (bytes work work' : List ℕ) (c : Catalog) (k end : ℕ) (ta
   pub says : (P : Pack) → Reads bytes (records_of work c) P → (Q : Pack) × (take P ≡ good Q) × Reads bytes (records_of work' c) Q
 
 -- what taking up a record of kind k answers, if `take` is the definition's test of it
-abbrev pub Takes : List ℕ → List ℕ → List ℕ → Catalog → ℕ → ℕ → (Pack → Checked Pack) → Taken → Type 0
-Takes bytes work work' c k end take Good = TakenUp bytes work work' c k end take
-Takes bytes work work' c k end take Bad = (P : Pack) → Reads bytes (records_of work c) P → take P ≡ bad
-Takes bytes work work' c k end take Over = (P : Pack) → Reads bytes (records_of work c) P → take P ≡ over
+abbrev pub Takes : List ℕ → List ℕ → List ℕ → Catalog → ℕ → ℕ → (Pack → Checked Pack) → Result (Unit {0}) Fault → Type 0
+Takes bytes work work' c k end take (Ok tt) = TakenUp bytes work work' c k end take
+Takes bytes work work' c k end take (Err Bad) = (P : Pack) → Reads bytes (records_of work c) P → take P ≡ bad
+Takes bytes work work' c k end take (Err Over) = (P : Pack) → Reads bytes (records_of work c) P → take P ≡ over
 
 -- a record with at least a byte of body can be entered, if of a kind with a limit there are few
 pub may_enter : (bytes work body : List ℕ) (c : Catalog) (at k n : ℕ) → Reading bytes work c at → Whole bytes body at → 0 < length body → n ≤ length body → k < 9 → (k < 3 → length (records_of work c k) < 4097) → EnteringIn bytes work c k (record { at = at; from = at + 6 + n })
@@ -100,7 +101,7 @@ one_more bytes work work' c k p M = record { more = M.more; same = M.others }
 pub pushed-takes : (bytes work work' : List ℕ) (c : Catalog) (at end k : ℕ) (p : Place) (take : Pack → Checked Pack) (make : Pack → Pack) → Reading bytes work c at → at + 7 ≤ end
     → ((P : Pack) → Reads bytes (records_of work c) P → take P ≡ good (make P))
     → ((P : Pack) → Reads bytes (records_of work c) P → OneMore (records_of work c) (records_of work' c) k p → Reads bytes (records_of work' c) (make P))
-    → More bytes work work' c k p → Takes bytes work work' c k end take Good
+    → More bytes work work' c k p → Takes bytes work work' c k end take (Ok tt)
 pushed-takes bytes work work' c at end k p take make R some goes reads M =
     let m = one_more bytes work work' c k p M in
     record { reading = read_on bytes work work' c at end k p R some M; outside = M.outside; place = p; more = m; says = λ P r. (make P, goes P r, reads P r m) }
@@ -109,13 +110,13 @@ pushed-takes bytes work work' c at end k p take make R some goes reads M =
 pub entered_takes : (bytes work work' : List ℕ) (c : Catalog) (at end k : ℕ) (p : Place) (take : Pack → Checked Pack) (make : Pack → Pack) → Reading bytes work c at → at + 7 ≤ end
     → ((P : Pack) → Reads bytes (records_of work c) P → (FindsIn bytes (records_of work c k) (key_at bytes p) → ⊥) → take P ≡ good (make P))
     → ((P : Pack) → Reads bytes (records_of work c) P → OneMore (records_of work c) (records_of work' c) k p → Reads bytes (records_of work' c) (make P))
-    → EntersIn bytes work work' c k p New → Takes bytes work work' c k end take Good
+    → EntersIn bytes work work' c k p New → Takes bytes work work' c k end take (Ok tt)
 entered_takes bytes work work' c at end k p take make R some goes reads E =
     pushed-takes bytes work work' c at end k p take make R some (λ P r. goes P r E.0) reads E.1
 
 pub refused-takes : (bytes work work' : List ℕ) (c : Catalog) (end k : ℕ) (p : Place) (take : Pack → Checked Pack)
     → ((P : Pack) → Reads bytes (records_of work c) P → FindsIn bytes (records_of work c k) (key_at bytes p) → take P ≡ bad)
-    → EntersIn bytes work work' c k p Old → Takes bytes work work' c k end take Bad
+    → EntersIn bytes work work' c k p Old → Takes bytes work work' c k end take (Err Bad)
 refused-takes bytes work work' c end k p take stops E P r = stops P r E.0
 
 -- ---- a key that is there, or is not, among names that are the places' keys

@@ -1,4 +1,5 @@
 -- A word of a rule's terms: what `read_word` asks and answers.
+use Rattle.std.specs.Prelude.{Option, Some, None, Result, Ok, Err}
 use Rattle.std.specs.Prelude.{◌≡◌, Bool, true, false, not, List, ◌++◌, ℕ, ◌+◌, ◌*◌, ◌-◌, ◌≤◌, ◌<◌, ltb, eqb, length, drop}
 use Rattle.std.proofs.Common.{sym, ap, ◌∙◌, arith, ltb-true}
 use Rattle.definition.specs.Test.{and_parts}
@@ -13,9 +14,8 @@ use Rattle.pack_tables.specs.Name.{denied, not_denied}
 use Rattle.pack_reader.specs.Terms.{wanted_by, unread_at, word_none, word-many, word-unfit, word_fits, fits-symbol}
 use Rattle.pack_reader.specs.Reading.{Stacked, Wanted, Wants, Fitting, Descended}
 use Rattle.pack_reader.specs.declared.terms.Point.{Point}
-use Rattle.pack_reader.specs.declared.terms.Want.TheVariants.{Done}
-use Rattle.pack_reader.specs.declared.terms.Turn.{Turn}
-use Rattle.pack_reader.specs.declared.terms.Turn.TheVariants.{Next, End, Bad, Over}
+use Rattle.pack_reader.specs.declared.taken.Fault.{Fault}
+use Rattle.pack_reader.specs.declared.taken.Fault.TheVariants.{Bad, Over}
 
 -- a point that the reading reaches: each frame is of a word that was read
 pub record Reached (bytes : List ℕ) (rs : ℕ → List Place) (body : List ℕ) (vars : ℕ) (fs : List ℕ) (p : Point) : Type 0 where
@@ -35,11 +35,11 @@ pub record Onward (bytes : List ℕ) (rs : ℕ → List Place) (body : List ℕ)
   pub read : q.read ≡ p.read + 1
   pub run : (P : Pack) → Reads bytes rs P → run_from P body vars fs p ≡ run_from P body vars fs' q
 
-abbrev pub Turned : List ℕ → (ℕ → List Place) → List ℕ → ℕ → List ℕ → List ℕ → Point → Turn → Type 0
-Turned bytes rs body vars fs fs' p (Next q) = Onward bytes rs body vars fs fs' p q
-Turned bytes rs body vars fs fs' p End = (P : Pack) → Reads bytes rs P → run_from P body vars fs p ≡ good (unread_at body p.at p.read)
-Turned bytes rs body vars fs fs' p Bad = (P : Pack) → Reads bytes rs P → run_from P body vars fs p ≡ bad
-Turned bytes rs body vars fs fs' p Over = (P : Pack) → Reads bytes rs P → run_from P body vars fs p ≡ over
+abbrev pub Turned : List ℕ → (ℕ → List Place) → List ℕ → ℕ → List ℕ → List ℕ → Point → Result (Option Point) Fault → Type 0
+Turned bytes rs body vars fs fs' p (Ok (Some q)) = Onward bytes rs body vars fs fs' p q
+Turned bytes rs body vars fs fs' p (Ok None) = (P : Pack) → Reads bytes rs P → run_from P body vars fs p ≡ good (unread_at body p.at p.read)
+Turned bytes rs body vars fs fs' p (Err Bad) = (P : Pack) → Reads bytes rs P → run_from P body vars fs p ≡ bad
+Turned bytes rs body vars fs fs' p (Err Over) = (P : Pack) → Reads bytes rs P → run_from P body vars fs p ≡ over
 
 module _ (bytes : List ℕ) (rs : ℕ → List Place) (body : List ℕ) (vars : ℕ) (fs : List ℕ) (p : Point) (G : Reached bytes rs body vars fs p) where
   abbrev sorts : List ℕ
@@ -49,7 +49,7 @@ module _ (bytes : List ℕ) (rs : ℕ → List Place) (body : List ℕ) (vars : 
   next = le 4 body p.at
 
   -- no sort is wanted
-  pub turn_end : (fs' : List ℕ) → Wants bytes rs fs fs' p Done → Turned bytes rs body vars fs fs' p End
+  pub turn_end : (fs' : List ℕ) → Wants bytes rs fs fs' p None → Turned bytes rs body vars fs fs' p (Ok None)
   turn_end fs' none P R = rw (none P R) (read_done P sorts (unread_at body p.at p.read))
 
   module _ (fs₁ : List ℕ) (s : ℕ) (q : Point) (W : Wanted bytes rs fs fs₁ p s q) where
@@ -57,7 +57,7 @@ module _ (bytes : List ℕ) (rs : ℕ → List Place) (body : List ℕ) (vars : 
     others P = wanted_by P fs₁ q.frames q.left
 
     -- there is no word
-    pub turn-none : length body - q.at < 4 → Turned bytes rs body vars fs fs₁ p Bad
+    pub turn-none : length body - q.at < 4 → Turned bytes rs body vars fs fs₁ p (Err Bad)
     turn-none h P R = rw (W.wants P R) (word_none P sorts body p.at p.read s (others P) (omega (arith, W.at)))
 
     module _ (room : q.at + 4 ≤ length body) where
@@ -65,7 +65,7 @@ module _ (bytes : List ℕ) (rs : ℕ → List Place) (body : List ℕ) (vars : 
       long = omega (arith, W.at)
 
       -- it is the 257th
-      pub turn_many : 256 ≤ q.read → Turned bytes rs body vars fs fs₁ p Over
+      pub turn_many : 256 ≤ q.read → Turned bytes rs body vars fs fs₁ p (Err Over)
       turn_many h P R = rw (W.wants P R) (word-many P sorts body p.at p.read s (others P) long (omega (arith, W.read)))
 
       module _ (few : q.read < 256) (w : ℕ) (is : w ≡ le 4 body q.at) (t : Bool) (F : Fitting bytes rs body vars s w t) where
@@ -79,7 +79,7 @@ module _ (bytes : List ℕ) (rs : ℕ → List Place) (body : List ℕ) (vars : 
         fit P R = F P R ∙ ap (fits P sorts s) same
 
         -- it may not stand there
-        pub turn-unfit : not t ≡ true → Turned bytes rs body vars fs fs₁ p Bad
+        pub turn-unfit : not t ≡ true → Turned bytes rs body vars fs fs₁ p (Err Bad)
         turn-unfit e P R = rw (W.wants P R) (word-unfit P sorts body p.at p.read s (others P) long below (denied t (fits P sorts s next) (fit P R) e))
 
         -- it may: then it is a variable, or a symbol that was given
@@ -91,7 +91,7 @@ module _ (bytes : List ℕ) (rs : ℕ → List Place) (body : List ℕ) (vars : 
 
         -- and the reading goes on behind it
         pub turn_on : not t ≡ false → (fs₂ : List ℕ) (m n : Point) → m.at ≡ q.at + 4 → m.read ≡ q.read + 1 → m.frames ≡ q.frames → m.left ≡ q.left
-            → Descended bytes rs fs₁ fs₂ m w n → Turned bytes rs body vars fs fs₂ p (Next n)
+            → Descended bytes rs fs₁ fs₂ m w n → Turned bytes rs body vars fs fs₂ p (Ok (Some n))
         turn_on e fs₂ m n at read frames left D = record {
           reached = record {
             stacked = D.stacked;

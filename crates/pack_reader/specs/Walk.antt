@@ -1,5 +1,6 @@
 -- From one record to the next.
-use Rattle.std.specs.Prelude.{◌≡◌, List, ℕ, ◌+◌, ◌-◌, ◌≤◌, ◌<◌, length, get_or, drop}
+use Rattle.std.specs.Prelude.{Option, Some, None, Result, Ok, Err}
+use Rattle.std.specs.Prelude.{◌≡◌, refl, List, ℕ, ◌+◌, ◌-◌, ◌≤◌, ◌<◌, length, get_or, drop}
 use Rattle.std.proofs.Common.{sym, subst, ◌∙◌, arith, length-drop, drop-drop, length-take-le}
 use Rattle.std.proofs.Math.Path.{ap}
 use Rattle.std.proofs.Math.ListN.{take}
@@ -16,16 +17,14 @@ use Rattle.pack_tables.specs.Catalog.{records_of}
 use Rattle.pack_tables.specs.declared.catalog.Catalog.{Catalog}
 use Rattle.pack_tables.specs.Header.{Heads, HeadsFirst, heads_tail}
 use Rattle.pack_tables.specs.declared.header.Header.{Header}
-use Rattle.pack_tables.specs.declared.header.Header.TheVariants.{Whole, Bad}
 use Rattle.pack_read.specs.Reads.{Reads, length-nodes, length_symbols, node_of_law}
 use Rattle.pack_reader.specs.Taking.{Reading, behind}
 use Rattle.pack_reader.specs.Taking as taking
 use Rattle.pack_reader.specs.Sound.{Sound}
-use Rattle.pack_reader.specs.declared.taken.Taken.{Taken}
-use Rattle.pack_reader.specs.declared.taken.Taken.TheVariants as taken
 use Rattle.pack_reader.specs.Marks.{Marks, Beyond, Advances}
-use Rattle.pack_reader.specs.declared.next.Next.{Next}
-use Rattle.pack_reader.specs.declared.next.Next.TheVariants as next
+use Rattle.pack_reader.specs.Fault.{refusal_at}
+use Rattle.pack_reader.specs.declared.taken.Fault.{Fault}
+use Rattle.pack_reader.specs.declared.taken.Fault.TheVariants.{Bad, Over}
 
 -- ahead of the record at `at`, behind one of the kind `last`: the tables are of a good pack, and what is left of the bytes makes of it what the whole makes of none
 pub record Walking (bytes work : List ℕ) (c : Catalog) (at last : ℕ) : Type 0 where
@@ -39,17 +38,22 @@ pub record Walking (bytes work : List ℕ) (c : Catalog) (at last : ℕ) : Type 
   pub left : records kinds take_record (drop at bytes) 0 at last pack ≡ parse bytes
 
 -- ahead of the record at `at`, and this is its header
-pub record Meeting (bytes work : List ℕ) (c : Catalog) (at : ℕ) (header : Header) : Type 0 where
+pub record Meeting (bytes work : List ℕ) (c : Catalog) (at : ℕ) (header : Option Header) : Type 0 where
   pub last : ℕ
   pub walking : Walking bytes work c at last
   pub some_left : at < length bytes
   pub heads : HeadsFirst (drop at bytes) last header
 
 -- what taking up the next record answers
-abbrev pub Goes : List ℕ → List ℕ → List ℕ → Catalog → ℕ → Next → Type 0
-Goes bytes work work' c at (next.At size kind) = Walking bytes work' c (at + size) kind × Beyond work work' c × (0 < size)
-Goes bytes work work' c at next.Bad = parse bytes ≡ refuse (Form at)
-Goes bytes work work' c at next.Over = parse bytes ≡ refuse (Limit at)
+abbrev pub Goes : List ℕ → List ℕ → List ℕ → Catalog → ℕ → Result (ℕ × ℕ) Fault → Type 0
+Goes bytes work work' c at (Ok (size, kind)) = Walking bytes work' c (at + size) kind × Beyond work work' c × (0 < size)
+Goes bytes work work' c at (Err Bad) = parse bytes ≡ refuse (Form at)
+Goes bytes work work' c at (Err Over) = parse bytes ≡ refuse (Limit at)
+
+-- which a fault refuses
+pub goes_refused : (bytes work work' : List ℕ) (c : Catalog) (at : ℕ) (f : Fault) → Goes bytes work work' c at (Err f) → parse bytes ≡ refuse (refusal_at f at)
+goes_refused bytes work work' c at Bad G = G
+goes_refused bytes work work' c at Over G = G
 
 -- whatever pack is read, its nodes' heads are symbols
 pub walking_sound : (bytes work : List ℕ) (c : Catalog) (at last : ℕ) → Walking bytes work c at last → Sound bytes work c
@@ -65,11 +69,11 @@ walking_sound bytes work c at last W = record { pack = W.pack; reads = W.reads; 
 
 module _ (bytes work : List ℕ) (c : Catalog) (at last : ℕ) (W : Walking bytes work c at last) where
   -- no record is there
-  pub no_record : at < length bytes → HeadsFirst (drop at bytes) last Bad → parse bytes ≡ refuse (Form at)
+  pub no_record : at < length bytes → HeadsFirst (drop at bytes) last None → parse bytes ≡ refuse (Form at)
   no_record l H = sym W.left ∙ records-cut kinds take_record (drop at bytes) at last W.pack (omega (arith, length-drop at bytes)) H
 
   -- a record is there
-  module _ (kind size : ℕ) (H₁ : HeadsFirst (drop at bytes) last (Whole kind size)) where
+  module _ (kind size : ℕ) (H₁ : HeadsFirst (drop at bytes) last (Some (record { kind = kind; end = size }))) where
     abbrev end : ℕ
     end = at + size
 
@@ -90,17 +94,17 @@ module _ (bytes work : List ℕ) (c : Catalog) (at last : ℕ) (W : Walking byte
     behind_is = omega (arith, long_body, H.1)
 
     -- it was taken up
-    pub went_on : (work' : List ℕ) (r : Taken) → Advances bytes work work' c (behind at body) (λ P. take_record P (record { kind = kind; body = body })) r
-        → (r ≡ taken.Good → Goes bytes work work' c at (next.At size kind)) × (r ≡ taken.Bad → Goes bytes work work' c at next.Bad) × (r ≡ taken.Over → Goes bytes work work' c at next.Over)
+    pub went_on : (work' : List ℕ) (r : Result (Unit {0}) Fault) → Advances bytes work work' c (behind at body) (λ P. take_record P (record { kind = kind; body = body })) r
+        → (r ≡ (Ok tt) → Goes bytes work work' c at (Ok (size, kind))) × (r ≡ (Err Bad) → Goes bytes work work' c at (Err Bad)) × (r ≡ (Err Over) → Goes bytes work work' c at (Err Over))
     went_on work' r A = (λ e. on (subst (Advances bytes work work' c (behind at body) (λ P. take_record P (record { kind = kind; body = body }))) e A), λ e. against (subst (Advances bytes work work' c (behind at body) (λ P. take_record P (record { kind = kind; body = body }))) e A), λ e. too_much (subst (Advances bytes work work' c (behind at body) (λ P. take_record P (record { kind = kind; body = body }))) e A))
       where
-        against : Advances bytes work work' c (behind at body) (λ P. take_record P (record { kind = kind; body = body })) taken.Bad → parse bytes ≡ refuse (Form at)
+        against : Advances bytes work work' c (behind at body) (λ P. take_record P (record { kind = kind; body = body })) (Err Bad) → parse bytes ≡ refuse (Form at)
         against B = sym W.left ∙ records_bad kinds take_record (drop at bytes) at last W.pack _ H.0 (B W.pack W.reads)
 
-        too_much : Advances bytes work work' c (behind at body) (λ P. take_record P (record { kind = kind; body = body })) taken.Over → parse bytes ≡ refuse (Limit at)
+        too_much : Advances bytes work work' c (behind at body) (λ P. take_record P (record { kind = kind; body = body })) (Err Over) → parse bytes ≡ refuse (Limit at)
         too_much B = sym W.left ∙ records-over kinds take_record (drop at bytes) at last W.pack _ H.0 (B W.pack W.reads)
 
-        on : Advances bytes work work' c (behind at body) (λ P. take_record P (record { kind = kind; body = body })) taken.Good → Goes bytes work work' c at (next.At size kind)
+        on : Advances bytes work work' c (behind at body) (λ P. take_record P (record { kind = kind; body = body })) (Ok tt) → Goes bytes work work' c at (Ok (size, kind))
         on B =
             let s = B.says W.pack W.reads in
             let e : at + (6 + length body) ≡ end = omega (arith, behind_is) in
@@ -119,3 +123,8 @@ module _ (bytes work : List ℕ) (c : Catalog) (at last : ℕ) (W : Walking byte
               B.beyond,
               omega (arith, H₁.1),
             )
+
+    -- so a fault of the record is one of the next
+    pub went_wrong : (work' : List ℕ) (f : Fault) → Advances bytes work work' c (behind at body) (λ P. take_record P (record { kind = kind; body = body })) (Err f) → Goes bytes work work' c at (Err f)
+    went_wrong work' Bad A = (went_on work' (Err Bad) A).1 refl
+    went_wrong work' Over A = (went_on work' (Err Over) A).2 refl

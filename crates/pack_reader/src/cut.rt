@@ -6,7 +6,7 @@ ghost use Rattle.pack_reader.specs.Taking.{Reading, Whole, behind};
 ghost use Rattle.pack_reader.specs.Sound.{Sound};
 ghost use Rattle.pack_reader.specs.Marks.{marks_at, mark_of, Marks, Advances};
 
-use crate::taken::Taken;
+use crate::taken::Fault;
 use base::id::Ground;
 use buffer::little::u32_at;
 use pack_read::symbol::{symbol_arity, symbol_output};
@@ -33,33 +33,39 @@ pub fn cut_mark(pack: &[u8], work: &[u32], c: Catalog, h: usize) -> usize
 }
 
 // A cut: a predicate that has none yet, and positions below its arity.
-pub fn take_cut(pack: &[u8], body: &[u8], work: &mut [u32], c: Catalog, at: usize) -> Taken
+pub fn take_cut(
+    pack: &[u8],
+    body: &[u8],
+    work: &mut [u32],
+    c: Catalog,
+    at: usize,
+) -> Result<(), Fault>
     requires { Reading pack.now work.old c at × Whole pack.now body.now at × Sound pack.now work.old c × Marks pack.now work.old c }
     ensures { Advances pack.now work.old work.new c (behind at body.now) (λ P. take_cut P body.now) result }
 {
     if body.len() < Field::CUT_OUTPUTS {
-        return Taken::Bad;
+        return Err(Fault::Bad);
     }
     let predicate = u32_at(body, 0) as usize;
     if c.count(work, Catalog::SYMBOLS) <= predicate {
-        return Taken::Bad;
+        return Err(Fault::Bad);
     }
     if symbol_output(pack, work, c, predicate) != Ground::PROP {
-        return Taken::Bad;
+        return Err(Fault::Bad);
     }
     let positions = (body.len() - Field::CUT_OUTPUTS) / Field::WORD;
     if body.len() != Field::CUT_OUTPUTS + Field::WORD * positions {
-        return Taken::Bad;
+        return Err(Fault::Bad);
     }
     let arity = symbol_arity(pack, work, c, predicate);
     if !all_below(body, Field::CUT_OUTPUTS, positions, arity) {
-        return Taken::Bad;
+        return Err(Fault::Bad);
     }
     if cut_mark(pack, work, c, predicate) != 0 {
-        return Taken::Bad;
+        return Err(Fault::Bad);
     }
     c.push(pack, work, Catalog::CUTS, at, at + Header::SIZE);
     let m = mark_place(work, c, predicate);
     work[m] = c.count(work, Catalog::CUTS) as u32;
-    Taken::Good
+    Ok(())
 }

@@ -4,7 +4,7 @@ ghost use Rattle.pack_reader.specs.Taking.{Reading, Whole, behind, Takes};
 ghost use Rattle.pack_reader.specs.Sound.{Sound};
 ghost use Rattle.pack_reader.specs.Node.{Asks, Fit};
 
-use crate::taken::Taken;
+use crate::taken::Fault;
 use base::id::Ground;
 use buffer::little::u32_at;
 use pack_read::node::node_sort;
@@ -28,8 +28,7 @@ fn arguments_fit(
     ensures { Fit pack.now work.now body.now c head arity result }
 {
     let nodes = c.count(work, Catalog::NODES);
-    let mut i = 0;
-    while i < arity {
+    for i in 0..arity {
         let n = Ground(word(body, Field::NODE_ARGUMENTS, i));
         if nodes <= n.0 as usize {
             return false;
@@ -37,32 +36,37 @@ fn arguments_fit(
         if node_sort(pack, work, c, n) != symbol_input(pack, work, c, head, i) {
             return false;
         }
-        i += 1;
     }
     true
 }
 
 // A node: its head, a symbol, and its arguments. Its body is its key.
-pub fn take_node(pack: &[u8], body: &[u8], work: &mut [u32], c: Catalog, at: usize) -> Taken
+pub fn take_node(
+    pack: &[u8],
+    body: &[u8],
+    work: &mut [u32],
+    c: Catalog,
+    at: usize,
+) -> Result<(), Fault>
     requires { Reading pack.now work.old c at × Whole pack.now body.now at × Sound pack.now work.old c }
     ensures { Takes pack.now work.old work.new c 3 (behind at body.now) (λ P. take_node P body.now) result }
 {
     if body.len() < Field::NODE_ARGUMENTS {
-        return Taken::Bad;
+        return Err(Fault::Bad);
     }
     let head = u32_at(body, 0) as usize;
     if c.count(work, Catalog::SYMBOLS) <= head {
-        return Taken::Bad;
+        return Err(Fault::Bad);
     }
     let arity = symbol_arity(pack, work, c, head);
     if body.len() != Field::NODE_ARGUMENTS + Field::WORD * arity {
-        return Taken::Bad;
+        return Err(Fault::Bad);
     }
     if !arguments_fit(pack, body, work, c, head, arity) {
-        return Taken::Bad;
+        return Err(Fault::Bad);
     }
     match c.enter(pack, work, Catalog::NODES, at, at + Header::SIZE) {
-        Entered::New => Taken::Good,
-        Entered::Old => Taken::Bad,
+        Entered::New => Ok(()),
+        Entered::Old => Err(Fault::Bad),
     }
 }

@@ -4,18 +4,10 @@ ghost use Rattle.pack_reader.specs.Marks.{Beyond};
 ghost use Rattle.pack_reader.specs.Walk.{Walking};
 ghost use Rattle.pack_reader.specs.Parsed.{tables_of, Room, Parses};
 
-use crate::next::{Next, take_next};
-use buffer::zero::zero_words;
+use crate::next::take_next;
+use definition::Refusal;
 use pack_tables::catalog::Catalog;
 use pack_tables::unread::Unread;
-
-// What reading a pack gives: tables that represent it, or the first bad record's refusal.
-#[derive(Clone, Copy)]
-pub enum Parsed {
-    Fine,
-    Form(usize),
-    Limit(usize),
-}
 
 // Where the tables of a pack stand: from the start of work on, with room for a record each seven bytes.
 pub fn tables(pack: &[u8]) -> Catalog
@@ -34,12 +26,12 @@ fn open_tables(pack: &[u8], work: &mut [u32]) -> Catalog
 {
     let cap = pack.len() / 7 + 1;
     let marks = Catalog::TABLES * (Catalog::RECORD * cap + Catalog::MORE);
-    zero_words(&mut work[marks..marks + cap]);
+    work[marks..marks + cap].fill(0);
     Catalog::new(work, 0, cap)
 }
 
 // The records from the first on: what is unread is carried from each to the next.
-fn read_records(pack: &[u8], work: &mut [u32], c: Catalog) -> Parsed
+fn read_records(pack: &[u8], work: &mut [u32], c: Catalog) -> Result<(), Refusal>
     requires { (c ≡ tables_of (length pack.now)) × Walking pack.now work.old (tables_of (length pack.now)) 0 0 }
     ensures { Parses pack.now work.old work.new result }
 {
@@ -47,22 +39,19 @@ fn read_records(pack: &[u8], work: &mut [u32], c: Catalog) -> Parsed
     while 0 < unread.tail.len() {
         let at = pack.len() - unread.tail.len();
         match take_next(pack, work, c, at, unread.header()) {
-            Next::At(end, kind) => {
+            Ok((end, kind)) => {
                 unread = unread.behind(end, kind);
             }
-            Next::Bad => {
-                return Parsed::Form(at);
-            }
-            Next::Over => {
-                return Parsed::Limit(at);
+            Err(fault) => {
+                return Err(fault.refusal(at));
             }
         }
     }
-    Parsed::Fine
+    Ok(())
 }
 
-// The pack read into the tables at the start of work.
-pub fn read_pack(pack: &[u8], work: &mut [u32]) -> Parsed
+// The pack read into the tables at the start of work, which then represent it; or the first bad record's refusal.
+pub fn read_pack(pack: &[u8], work: &mut [u32]) -> Result<(), Refusal>
     requires { Room pack.now work.old }
     ensures { Parses pack.now work.old work.new result }
 {

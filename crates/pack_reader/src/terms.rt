@@ -8,6 +8,7 @@ ghost use Rattle.pack_reader.specs.TermsRun.{TermsRead};
 ghost use Rattle.definition.specs.Pack.{most_words, most_premises};
 ghost use Rattle.definition.specs.Theory.{variable};
 
+use crate::taken::Fault;
 use base::id::{Ground, Prefix};
 use base::limit::Limit;
 use base::stack::Frame;
@@ -27,32 +28,14 @@ pub struct Point {
     pub left: usize,
 }
 
-// What reading a word comes to: the next point, or how the reading ends.
-#[derive(Clone, Copy)]
-enum Turn {
-    Next(Point),
-    End,
-    Bad,
-    Over,
-}
-
-// How the reading ended: at a place of the body, against the form, or over a limit.
-#[derive(Clone, Copy)]
-pub enum Terms {
-    End(usize),
-    Bad,
-    Over,
-}
-
-// The sort of the next term, or that none is wanted.
-#[derive(Clone, Copy)]
-enum Want {
-    Sort(u32, Point),
-    Done,
-}
-
-// The sort that is wanted next.
-fn next_sort(pack: &[u8], work: &[u32], c: Catalog, frames: &mut [u32], p: Point) -> Want
+// The sort that is wanted next, and the point without it; none where no term is wanted any more.
+fn next_sort(
+    pack: &[u8],
+    work: &[u32],
+    c: Catalog,
+    frames: &mut [u32],
+    p: Point,
+) -> Option<(u32, Point)>
     requires { Readable pack.now work.now c × Stacked pack.now (records_of work.now c) frames.old p.frames }
     ensures { Wants pack.now (records_of work.now c) frames.old frames.new p result }
 {
@@ -60,9 +43,9 @@ fn next_sort(pack: &[u8], work: &[u32], c: Catalog, frames: &mut [u32], p: Point
     if n == 0 {
         let left = p.left;
         if left == 0 {
-            return Want::Done;
+            return None;
         }
-        return Want::Sort(
+        return Some((
             Ground::PROP,
             Point {
                 at: p.at,
@@ -70,14 +53,14 @@ fn next_sort(pack: &[u8], work: &[u32], c: Catalog, frames: &mut [u32], p: Point
                 frames: 0,
                 left: left - 1,
             },
-        );
+        ));
     }
     let h = frames[Frame::WORDS * (n - 1)] as usize;
     let i = frames[Frame::WORDS * (n - 1) + Frame::TAKEN] as usize;
     let s = symbol_input(pack, work, c, h, i);
     let arity = symbol_arity(pack, work, c, h);
     if arity <= i + 1 {
-        return Want::Sort(
+        return Some((
             s,
             Point {
                 at: p.at,
@@ -85,10 +68,10 @@ fn next_sort(pack: &[u8], work: &[u32], c: Catalog, frames: &mut [u32], p: Point
                 frames: n - 1,
                 left: p.left,
             },
-        );
+        ));
     }
     frames[Frame::WORDS * (n - 1) + Frame::TAKEN] = i as u32 + 1;
-    Want::Sort(s, p)
+    Some((s, p))
 }
 
 // Whether the word `w` may stand where a term of sort `s` is wanted.
@@ -133,7 +116,7 @@ fn descend(pack: &[u8], work: &[u32], c: Catalog, frames: &mut [u32], p: Point, 
     }
 }
 
-// A word of the terms.
+// A word of the terms: the point behind it, or none where no term is wanted any more.
 fn read_word(
     pack: &[u8],
     work: &[u32],
@@ -142,43 +125,35 @@ fn read_word(
     vars: usize,
     frames: &mut [u32],
     p: Point,
-) -> Turn
+) -> Result<Option<Point>, Fault>
     requires { Readable pack.now work.now c × Reached pack.now (records_of work.now c) body.now vars frames.old p }
     ensures { Turned pack.now (records_of work.now c) body.now vars frames.old frames.new p result }
 {
-    match next_sort(pack, work, c, frames, p) {
-        Want::Done => Turn::End,
-        Want::Sort(s, q) => {
-            let at = q.at;
-            if body.len() - at < 4 {
-                return Turn::Bad;
-            }
-            let read = q.read;
-            if Limit::WORDS <= read {
-                return Turn::Over;
-            }
-            let w = u32_at(body, at);
-            if !fits_at(pack, work, c, body, vars, s, w) {
-                return Turn::Bad;
-            }
-            Turn::Next(descend(
-                pack,
-                work,
-                c,
-                frames,
-                Point {
-                    at: at + Field::WORD,
-                    read: read + 1,
-                    frames: q.frames,
-                    left: q.left,
-                },
-                w,
-            ))
-        }
+    let Some((s, q)) = next_sort(pack, work, c, frames, p) else {
+        return Ok(None);
+    };
+    let at = q.at;
+    if body.len() - at < 4 {
+        return Err(Fault::Bad);
     }
+    let read = q.read;
+    if Limit::WORDS <= read {
+        return Err(Fault::Over);
+    }
+    let w = u32_at(body, at);
+    if !fits_at(pack, work, c, body, vars, s, w) {
+        return Err(Fault::Bad);
+    }
+    let behind = Point {
+        at: at + Field::WORD,
+        read: read + 1,
+        frames: q.frames,
+        left: q.left,
+    };
+    Ok(Some(descend(pack, work, c, frames, behind, w)))
 }
 
-// The premises and the conclusion of a rule.
+// The premises and the conclusion of a rule: the place in the body behind them.
 pub fn read_terms(
     pack: &[u8],
     work: &[u32],
@@ -186,7 +161,7 @@ pub fn read_terms(
     body: &[u8],
     vars: usize,
     premises: usize,
-) -> Terms
+) -> Result<usize, Fault>
     requires { Readable pack.now work.now c × (4 + 4 * vars ≤ length body.now) × (premises ≤ most_premises) }
     ensures { TermsRead pack.now (records_of work.now c) body.now vars premises result }
 {
@@ -197,20 +172,8 @@ pub fn read_terms(
         frames: 0,
         left: premises + 1,
     };
-    loop {
-        match read_word(pack, work, c, body, vars, &mut frames, p) {
-            Turn::Next(q) => {
-                p = q;
-            }
-            Turn::End => {
-                return Terms::End(p.at);
-            }
-            Turn::Bad => {
-                return Terms::Bad;
-            }
-            Turn::Over => {
-                return Terms::Over;
-            }
-        }
+    while let Some(q) = read_word(pack, work, c, body, vars, &mut frames, p)? {
+        p = q;
     }
+    Ok(p.at)
 }

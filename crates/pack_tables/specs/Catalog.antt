@@ -1,4 +1,5 @@
 -- The regions of all kinds together.
+use Rattle.std.specs.Prelude.{Option, Some, None}
 use Rattle.std.specs.Prelude.{◌≡◌, Bool, true, false, not, List, [], ◌∷◌, ◌++◌, ℕ, suc, ◌+◌, ◌-◌, ◌*◌, ◌≤◌, ◌<◌, eqb, ltb, length, get_or, set, take, drop}
 use Rattle.std.proofs.Math.Path.{refl, ap, ap₂}
 use Rattle.std.proofs.Common.{sym, ◌∙◌, subst, mul-le-mul_right, arith, lt-ltb, le-ltb, ne_eqb, length-set}
@@ -11,8 +12,6 @@ use Rattle.pack_tables.specs.Region.{size_for, count_in, place_in, places, Kept,
 use Rattle.pack_tables.specs.RegionLaws.{length-places, places-at}
 use Rattle.pack_tables.specs.declared.region.Entered.{Entered}
 use Rattle.pack_tables.specs.declared.region.Entered.TheVariants.{New, Old}
-use Rattle.pack_tables.specs.declared.region.Sought.{Sought}
-use Rattle.pack_tables.specs.declared.region.Sought.TheVariants.{At, Nowhere}
 use Rattle.pack_tables.specs.declared.catalog.Catalog.{Catalog}
 
 -- for how many records of a kind there is room: of sorts, symbols and rules (kinds 0 to 2) a pack has at most 256, 4,096 and 4,096
@@ -214,9 +213,9 @@ entered_in bytes work c C k h r p Old E =
     ((E.0.0, E.0.1.0, E.0.1.1), ap (λ (x : List ℕ). put (start_of c k) (size_for (cap_of c k)) x work) E.1 ∙ put_region work c k f)
 
 -- what `find` answers
-abbrev pub SoughtIn : List ℕ → List Place → List ℕ → Sought → Type 0
-SoughtIn bytes ps key (At i) = (i < length ps) × (key_at bytes (get_or ps i no_place) ≡ key)
-SoughtIn bytes ps key Nowhere = FindsIn bytes ps key → ⊥
+abbrev pub SoughtIn : List ℕ → List Place → List ℕ → Option ℕ → Type 0
+SoughtIn bytes ps key (Some i) = (i < length ps) × (key_at bytes (get_or ps i no_place) ≡ key)
+SoughtIn bytes ps key None = FindsIn bytes ps key → ⊥
 
 -- a framed record, and room for it
 pub record EnteringIn (bytes work : List ℕ) (c : Catalog) (k : ℕ) (p : Place) : Type 0 where
@@ -286,10 +285,10 @@ module _ (work : List ℕ) (c : Catalog) (k a m : ℕ) (e : a ≡ start_of c k) 
       subst (λ (w : List ℕ). Clearing before w c (k + 1)) (sym (lent-put r))
       (clearing_more before work c k r h C (subst (λ (b : Bool). Emptied r (cap_of c k) b) g (subst (λ (y : ℕ). Emptied r y keys) f E)))
 
-pub sought_in : (bytes work : List ℕ) (c : Catalog) (k : ℕ) (key : List ℕ) (s : Sought) → Finds bytes (region_of work c k) key s → SoughtIn bytes (records_of work c k) key s
+pub sought_in : (bytes work : List ℕ) (c : Catalog) (k : ℕ) (key : List ℕ) (s : Option ℕ) → Finds bytes (region_of work c k) key s → SoughtIn bytes (records_of work c k) key s
 unfolding records_of
-sought_in bytes work c k key (At i) F = F
-sought_in bytes work c k key Nowhere F = λ f. F f.0 f.1 f.2
+sought_in bytes work c k key (Some i) F = F
+sought_in bytes work c k key None F = λ f. F f.0 f.1 f.2
 
 pub pushed_in : (bytes work : List ℕ) (c : Catalog) (C : Cataloged bytes work c) (k : ℕ) (h : k < 9) (r : List ℕ) (p : Place) → keyed_kind k ≡ false → places r ≡ places (region_of work c k) ++ (p ∷ []) → Kept bytes r (cap_of c k)
     → More bytes work (put (start_of c k) (size_for (cap_of c k)) r work) c k p

@@ -1,4 +1,5 @@
 -- What a record's header says.
+use Rattle.std.specs.Prelude.{Option, Some, None}
 use Rattle.std.specs.Prelude.{◌≡◌, refl, Bool, true, false, List, ℕ, ◌+◌, ◌-◌, ◌≤◌, ◌<◌, leb, length, take, drop}
 use Rattle.std.proofs.Common.{◌∙◌, arith, le-leb, length-drop, drop-drop, take_all}
 use Rattle.std.proofs.lemmas.Bool.{lt-leb}
@@ -9,12 +10,11 @@ use Rattle.definition.specs.Parse.{kinds}
 use Rattle.pack_tables.specs.Name.{and_false}
 use Rattle.pack_tables.specs.Row.{le-drop}
 use Rattle.pack_tables.specs.declared.header.Header.{Header}
-use Rattle.pack_tables.specs.declared.header.Header.TheVariants.{Whole, Bad}
 
 -- the record at the start of s is good, of kind k, with a body that ends at e; or it is bad
-abbrev pub HeadsFirst : List ℕ → ℕ → Header → Type 0
-HeadsFirst s last (Whole k e) = (record_of kinds last s ≡ good (record { kind = k; body = take (e - 6) (drop 6 s) })) × (6 ≤ e) × (e ≤ length s) × (e ≡ 6 + le 4 s 0)
-HeadsFirst s last Bad = record_of kinds last s ≡ bad
+abbrev pub HeadsFirst : List ℕ → ℕ → Option Header → Type 0
+HeadsFirst s last (Some h) = (record_of kinds last s ≡ good (record { kind = h.kind; body = take (h.end - 6) (drop 6 s) })) × (6 ≤ h.end) × (h.end ≤ length s) × (h.end ≡ 6 + le 4 s 0)
+HeadsFirst s last None = record_of kinds last s ≡ bad
 
 -- a good one of kind k stands at `at`, with a body that ends at e
 abbrev pub Heads : List ℕ → ℕ → ℕ → ℕ → ℕ → Type 0
@@ -27,7 +27,7 @@ pub lent-tail : (s : List ℕ) (at : ℕ) → take (length s - at) (drop at s) �
 lent-tail s at = take_all (length s - at) (drop at s) (omega (arith, length-drop at s))
 
 -- the first of the tail from there on
-pub heads_tail : (s : List ℕ) (at last k e : ℕ) → at ≤ length s → HeadsFirst (drop at s) last (Whole k e) → Heads s at last k (at + e)
+pub heads_tail : (s : List ℕ) (at last k e : ℕ) → at ≤ length s → HeadsFirst (drop at s) last (Some (record { kind = k; end = e })) → Heads s at last k (at + e)
 heads_tail s at last k e l H =
     let n : at + 0 ≡ at = omega arith in
     let f : le 4 (drop at s) 0 ≡ le 4 s at = le-drop 4 at s 0 ∙ rw n in

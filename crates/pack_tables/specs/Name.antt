@@ -1,6 +1,8 @@
 -- Names, byte by byte.
-use Rattle.std.specs.Prelude.{◌≡◌, refl, Bool, true, false, not, List, ℕ, ◌+◌, ◌≤◌, ◌<◌, eqb, leb, length, get_or, drop}
-use Rattle.std.proofs.Common.{sym, add-one, le-leb, eq-eqb, ne_eqb, drop_of_length-le, drop-cons}
+use Rattle.std.specs.Prelude.{◌≡◌, refl, Bool, true, false, not, List, [], ◌∷◌, ℕ, zero, suc, ◌+◌, ◌≤◌, ◌<◌, eqb, leb, length, get_or, drop}
+use Rattle.std.specs.Bool.{MatchBool}
+use Rattle.std.specs.List.{AllWithin, HoldsAt}
+use Rattle.std.proofs.Common.{sym, arith, add-one, le-leb, eq-eqb, ne_eqb, drop_of_length-le, drop-cons}
 use Rattle.std.proofs.lemmas.Bool.{lt-leb}
 use Rattle.definition.specs.Test.{never, ◌and◌, all}
 use Rattle.definition.specs.Theory.{name_byte, is_name}
@@ -53,6 +55,24 @@ bytes_stop i s l false e n = rw (drop-cons s i 0 l, all, ← e, ◌and◌)
 pub bytes-end : (i : ℕ) (s : List ℕ) → length s ≤ i → all name_byte (drop i s) ≡ true
 unfolding all
 bytes-end i s l = rw (drop_of_length-le s l)
+
+-- bytes that all pass
+all-pass : (xs : List ℕ) → ((k : ℕ) → k < length xs → name_byte (get_or xs k 0) ≡ true) → all name_byte xs ≡ true
+unfolding all
+all-pass [] f = refl
+all-pass (x ∷ xs) f = let p : name_byte x ≡ true = f 0 (omega arith) in rw (all, p, ◌and◌) (all-pass xs (λ k l. f (suc k) (omega arith)))
+
+-- one that does not
+one-stops : (xs : List ℕ) (k : ℕ) → k < length xs → name_byte (get_or xs k 0) ≡ false → all name_byte xs ≡ false
+unfolding all
+one-stops [] k l e = absurd (omega arith)
+one-stops (x ∷ xs) zero l e = let p : name_byte x ≡ false = e in rw (all, p, ◌and◌)
+one-stops (x ∷ xs) (suc k) l e = rw (all, one-stops xs k (omega arith) e) (and_false (name_byte x))
+
+-- the test of all bytes at once
+pub bytes-tested : (s : List ℕ) (r : Bool) → MatchBool r (AllWithin (λ b. name_byte b ≡ true) s 0 (length s)) ((k : ℕ) × (k < length s) × HoldsAt (λ b. name_byte b ≡ false) s k) → r ≡ all name_byte s
+bytes-tested s true m = sym (all-pass s (λ k l. m k 0 (omega arith) l))
+bytes-tested s false m = sym (one-stops s m.0 m.1 (m.2 0))
 
 -- nothing is no name
 pub none_no : (s : List ℕ) → length s < 1 → is_name s ≡ false

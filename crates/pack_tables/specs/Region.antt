@@ -1,16 +1,13 @@
 -- A region of work for the records of one kind: how many there are, where each stands, and a probe table of their keys.
+use Rattle.std.specs.Prelude.{Option, Some, None, Result, Ok, Err}
 use Rattle.std.specs.Prelude.{◌≡◌, Bool, true, List, [], ◌∷◌, ◌++◌, ℕ, ◌+◌, ◌-◌, ◌*◌, ◌≤◌, ◌<◌, length, get_or, set}
 use Rattle.base.specs.Part.{part}
 use Rattle.base.specs.Hash.{hash_of}
 use Rattle.base.specs.Listed.{listed}
 use Rattle.base.specs.Probe.{Table, Passed}
 use Rattle.pack_tables.specs.Place.{Place, no_place, key_at, Framed}
-use Rattle.pack_tables.specs.declared.region.Slot.{Slot}
-use Rattle.pack_tables.specs.declared.region.Slot.TheVariants.{Found, Free}
 use Rattle.pack_tables.specs.declared.region.Entered.{Entered}
 use Rattle.pack_tables.specs.declared.region.Entered.TheVariants.{New, Old}
-use Rattle.pack_tables.specs.declared.region.Sought.{Sought}
-use Rattle.pack_tables.specs.declared.region.Sought.TheVariants.{At, Nowhere}
 
 -- words for so many records: a count, two words a record, the slots
 abbrev pub size_for : ℕ → ℕ
@@ -45,14 +42,14 @@ pub record Keyed (bytes r : List ℕ) (cap : ℕ) : Type 0 where
   pub table : Table (hash_of (hashes_for cap)) (slots_in r cap) (λ i. key_at bytes (place_in r i)) (count_in r)
 
 -- what `find` answers: the record of this key, or that none has it
-abbrev pub Finds : List ℕ → List ℕ → List ℕ → Sought → Type 0
-Finds bytes r key (At i) = (i < length (places r)) × (key_at bytes (get_or (places r) i no_place) ≡ key)
-Finds bytes r key Nowhere = (i : ℕ) → i < length (places r) → key_at bytes (get_or (places r) i no_place) ≡ key → ⊥
+abbrev pub Finds : List ℕ → List ℕ → List ℕ → Option ℕ → Type 0
+Finds bytes r key (Some i) = (i < length (places r)) × (key_at bytes (get_or (places r) i no_place) ≡ key)
+Finds bytes r key None = (i : ℕ) → i < length (places r) → key_at bytes (get_or (places r) i no_place) ≡ key → ⊥
 
 -- what `enter` answers: the record is put behind the others, or one of them has its key and nothing is written
 abbrev pub Enters : List ℕ → List ℕ → List ℕ → ℕ → Place → Entered → Type 0
-Enters bytes r r' cap p New = Finds bytes r (key_at bytes p) Nowhere × (places r' ≡ places r ++ (p ∷ [])) × Keyed bytes r' cap
-Enters bytes r r' cap p Old = ((i : ℕ) × Finds bytes r (key_at bytes p) (At i)) × (r' ≡ r)
+Enters bytes r r' cap p New = Finds bytes r (key_at bytes p) None × (places r' ≡ places r ++ (p ∷ [])) × Keyed bytes r' cap
+Enters bytes r r' cap p Old = ((i : ℕ) × Finds bytes r (key_at bytes p) (Some i)) × (r' ≡ r)
 
 -- ---- between the region's own functions
 pub record Searching (bytes slots r : List ℕ) (cap h : ℕ) (key : List ℕ) : Type 0 where
@@ -61,9 +58,9 @@ pub record Searching (bytes slots r : List ℕ) (cap h : ℕ) (key : List ℕ) :
   pub hash_is : h ≡ hash_of (hashes_for cap) key
   pub below : h < hashes_for cap
 
-abbrev pub Probed : List ℕ → List ℕ → List ℕ → ℕ → List ℕ → Slot → Type 0
-Probed bytes slots r h key (Found t) = (t < length slots) × (0 < get_or slots t 0) × (key_at bytes (place_in r (get_or slots t 0 - 1)) ≡ key)
-Probed bytes slots r h key (Free t) = Passed slots (λ i. key_at bytes (place_in r i)) key h t × (get_or slots t 0 ≡ 0)
+abbrev pub Probed : List ℕ → List ℕ → List ℕ → ℕ → List ℕ → Result ℕ ℕ → Type 0
+Probed bytes slots r h key (Ok t) = (t < length slots) × (0 < get_or slots t 0) × (key_at bytes (place_in r (get_or slots t 0 - 1)) ≡ key)
+Probed bytes slots r h key (Err t) = Passed slots (λ i. key_at bytes (place_in r i)) key h t × (get_or slots t 0 ≡ 0)
 
 -- the region with a record more, but for the slots
 unfoldable pub appended : List ℕ → ℕ → ℕ → List ℕ

@@ -1,4 +1,5 @@
 -- The laws of a region: what a record more leaves as it was, and what a search finds.
+use Rattle.std.specs.Prelude.{Some, None, Ok, Err}
 use Rattle.std.specs.Prelude.{◌≡◌, Bool, true, false, not, get_or}
 use Rattle.std.proofs.Common.{sym, ◌∙◌, subst}
 use Rattle.std.proofs.Math.Path.{ap}
@@ -16,9 +17,7 @@ use Rattle.base.specs.Listed.{listed, listed_more, length-listed, listed_at, lis
 use Rattle.base.specs.Probe.{taken, grown, absent, table_empty}
 use Rattle.pack_tables.specs.Place.{Place, no_place, key_at, Framed}
 use Rattle.pack_tables.specs.Region.{size_for, count_in, place_in, places, hashes_for, slots_in, Kept, Keyed, Finds, Enters, Searching, Probed, appended, Appending, Entering, Emptied}
-use Rattle.pack_tables.specs.declared.region.Slot.TheVariants.{Found, Free}
 use Rattle.pack_tables.specs.declared.region.Entered.TheVariants.{New}
-use Rattle.pack_tables.specs.declared.region.Sought.TheVariants.{At, Nowhere}
 
 pub length-places : (r : List ℕ) → length (places r) ≡ count_in r
 unfolding places
@@ -56,8 +55,8 @@ alike xs key r e f = same_true xs key (sym e ∙ f)
 
 -- what a search finds
 module _ (bytes r : List ℕ) (cap : ℕ) (key : List ℕ) (K : Keyed bytes r cap) where
-  pub found : (t : ℕ) → Probed bytes (slots_in r cap) r (hash_of (hashes_for cap) key) key (Found t)
-      → (t < 3 * cap + 1) × (0 < get_or r (2 * cap + 1 + t) 0) × Finds bytes r key (At (get_or r (2 * cap + 1 + t) 0 - 1))
+  pub found : (t : ℕ) → Probed bytes (slots_in r cap) r (hash_of (hashes_for cap) key) key (Ok t)
+      → (t < 3 * cap + 1) × (0 < get_or r (2 * cap + 1 + t) 0) × Finds bytes r key (Some (get_or r (2 * cap + 1 + t) 0 - 1))
   found t F =
       let l : t < 3 * cap + 1 = omega (arith, F.0, length-slots bytes r cap K.kept) in
       let e = slot_at bytes r cap t l in
@@ -65,7 +64,7 @@ module _ (bytes r : List ℕ) (cap : ℕ) (key : List ℕ) (K : Keyed bytes r ca
       let k : i < count_in r = omega (arith, K.table.ids t F.0, F.1) in
       (l, omega (arith, F.1), (omega (arith, length-places r), ap (key_at bytes) (places-at r i k) ∙ rw e at F.2))
 
-  pub nowhere : (t : ℕ) → Probed bytes (slots_in r cap) r (hash_of (hashes_for cap) key) key (Free t) → Finds bytes r key Nowhere
+  pub nowhere : (t : ℕ) → Probed bytes (slots_in r cap) r (hash_of (hashes_for cap) key) key (Err t) → Finds bytes r key None
   nowhere t F i h e =
       let k : i < count_in r = omega (arith, length-places r) in
       absent (hash_of (hashes_for cap)) (slots_in r cap) (λ j. key_at bytes (place_in r j)) (count_in r) K.table key t F.0 F.1 i k (ap (key_at bytes) (sym (places-at r i k)) ∙ e)
@@ -170,7 +169,7 @@ entering bytes r cap p K E = record {
   from-fits = omega (arith, E.framed.ends, E.framed.whole, E.short);
 }
 
-pub entered : (bytes r : List ℕ) (cap : ℕ) (p : Place) (t : ℕ) → Keyed bytes r cap → Entering bytes r cap p → Probed bytes (slots_in r cap) r (hash_of (hashes_for cap) (key_at bytes p)) (key_at bytes p) (Free t)
+pub entered : (bytes r : List ℕ) (cap : ℕ) (p : Place) (t : ℕ) → Keyed bytes r cap → Entering bytes r cap p → Probed bytes (slots_in r cap) r (hash_of (hashes_for cap) (key_at bytes p)) (key_at bytes p) (Err t)
     → Enters bytes r (set (appended r p.at p.from) (2 * cap + 1 + t) (count_in r + 1)) cap p New
 entered bytes r cap p t K E F =
     let A = entering bytes r cap p K.kept E in

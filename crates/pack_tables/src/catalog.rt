@@ -1,9 +1,9 @@
 // The regions of all kinds, one behind the other in work, by the numbers of their tables.
-ghost use Rattle.std.specs.Prelude.{◌≡◌, true, false, ◌<◌, length, get_or};
+ghost use Rattle.std.specs.Prelude.{◌≡◌, true, false, ◌+◌, ◌*◌, ◌<◌, ◌≤◌, length, get_or};
 ghost use Rattle.pack_tables.specs.Place.{no_place};
 ghost use Rattle.pack_tables.specs.Catalog.{start_of, cap_of, records_of, keyed_kind, Fits, Cataloged, EnteringIn, SoughtIn, EntersIn, More, Cleared};
 
-use crate::region::{Entered, Region, Sought};
+use crate::region::{Entered, Region};
 
 // Where the first region starts, and for how many records each has room at most.
 #[derive(Clone, Copy)]
@@ -83,13 +83,21 @@ impl Catalog {
         work[a] as usize
     }
 
+    // A word of record `i` of a kind, by where it stands from the words of the records ahead of it on.
+    fn word(self, pack: &[u8], work: &[u32], kind: usize, i: usize, offset: usize) -> usize
+        requires { Cataloged pack.now work.now self × (kind < 9) × (i < length (records_of work.now self kind)) × (offset ≤ 2) }
+        ensures { result ≡ get_or work.now (start_of self kind + (2 * i + offset)) 0 }
+    {
+        let a = self.start(work, kind);
+        work[a + (Region::PLACE * i + offset)] as usize
+    }
+
     // Where record `i` of a kind stands in the pack.
     pub fn place(self, pack: &[u8], work: &[u32], kind: usize, i: usize) -> usize
         requires { Cataloged pack.now work.now self × (kind < 9) × (i < length (records_of work.now self kind)) }
         ensures { result ≡ (get_or (records_of work.now self kind) i no_place).at }
     {
-        let a = self.start(work, kind);
-        work[a + (Region::PLACE * i + Region::AT)] as usize
+        self.word(pack, work, kind, i, Region::AT)
     }
 
     // Where its key starts.
@@ -97,12 +105,11 @@ impl Catalog {
         requires { Cataloged pack.now work.now self × (kind < 9) × (i < length (records_of work.now self kind)) }
         ensures { result ≡ (get_or (records_of work.now self kind) i no_place).from }
     {
-        let a = self.start(work, kind);
-        work[a + (Region::PLACE * i + Region::KEY)] as usize
+        self.word(pack, work, kind, i, Region::KEY)
     }
 
-    // The record of a kind that has this key.
-    pub fn find(self, pack: &[u8], work: &[u32], kind: usize, key: &[u8]) -> Sought
+    // The record of a kind that has this key, or none.
+    pub fn find(self, pack: &[u8], work: &[u32], kind: usize, key: &[u8]) -> Option<usize>
         requires { Cataloged pack.now work.now self × (kind < 9) × (keyed_kind kind ≡ true) }
         ensures { SoughtIn pack.now (records_of work.now self kind) key.now result }
     {
@@ -161,8 +168,7 @@ impl Catalog {
         ensures { (result ≡ record { at = at; cap = cap }) × Cleared work.old work.new result }
     {
         let c = Catalog { at: at, cap: cap };
-        let mut k: usize = 0;
-        while k < Catalog::TABLES {
+        for k in 0..Catalog::TABLES {
             let a = c.start(work, k);
             let n = c.cap_of(k);
             let keys = has_keys(k);
@@ -171,7 +177,6 @@ impl Catalog {
                 n,
                 keys,
             );
-            k += 1;
         }
         c
     }

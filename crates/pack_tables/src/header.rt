@@ -3,11 +3,11 @@ ghost use Rattle.pack_tables.specs.Header.{HeadsFirst};
 
 use buffer::little::{u16_at, u32_at};
 
-// A record's kind and where its body ends, counted from the record's first byte; or that it is cut, of no kind, or out of order.
+// A record's kind, and where its body ends, counted from the record's first byte.
 #[derive(Clone, Copy)]
-pub enum Header {
-    Whole(u32, usize),
-    Bad,
+pub struct Header {
+    pub kind: u32,
+    pub end: usize,
 }
 
 impl Header {
@@ -41,26 +41,29 @@ impl Kind {
     pub const ABSTRACT: u32 = 9;
 }
 
-// The header at the start of a pack's tail, behind a record of the kind `last`.
-pub fn header_of(tail: &[u8], last: u32) -> Header
+// The header at the start of a pack's tail, behind a record of the kind `last`; none where it is cut, of no kind, or out of order.
+pub fn header_of(tail: &[u8], last: u32) -> Option<Header>
     ensures { HeadsFirst tail.now last result }
 {
     if tail.len() < Header::SIZE {
-        return Header::Bad;
+        return None;
     }
     let size = u32_at(tail, 0) as usize;
     if tail.len() - Header::SIZE < size {
-        return Header::Bad;
+        return None;
     }
     let kind = u16_at(tail, Header::KIND);
     if kind < Kind::SORT {
-        return Header::Bad;
+        return None;
     }
     if Kind::ABSTRACT < kind {
-        return Header::Bad;
+        return None;
     }
     if kind < last {
-        return Header::Bad;
+        return None;
     }
-    Header::Whole(kind, Header::SIZE + size)
+    Some(Header {
+        kind: kind,
+        end: Header::SIZE + size,
+    })
 }

@@ -24,7 +24,7 @@ fn name_byte(b: u8) -> bool
 pub fn is_name(name: &[u8]) -> bool
     ensures { result ≡ is_name name.now }
 {
-    if name.len() < 1 {
+    if name.is_empty() {
         return false;
     }
     if Limit::NAME < name.len() {
@@ -33,12 +33,5 @@ pub fn is_name(name: &[u8]) -> bool
     if name[0] == b'?' {
         return false;
     }
-    let mut i = 0;
-    while i < name.len() {
-        if !name_byte(name[i]) {
-            return false;
-        }
-        i += 1;
-    }
-    true
+    name.iter().all(|&b| name_byte(b))
 }

@@ -8,24 +8,8 @@ ghost use Rattle.pack_tables.specs.Region.{size_for, count_in, place_in, places,
 ghost use Rattle.definition.specs.Answer.{most_work};
 
 use crate::header::Header;
-use base::hash::hash_bytes;
-use base::same::same_bytes;
+use base::hash::hash;
 use buffer::little::u32_at;
-use buffer::zero::zero_words;
-
-// Where a search for a key ends: at the slot that holds it, or at the first free one.
-#[derive(Clone, Copy)]
-enum Slot {
-    Found(usize),
-    Free(usize),
-}
-
-// The number of the record that has a key, or that none has it.
-#[derive(Clone, Copy)]
-pub enum Sought {
-    At(usize),
-    Nowhere,
-}
 
 // A record put behind the others, or one whose key is there already.
 #[derive(Clone, Copy)]
@@ -77,11 +61,18 @@ fn has(pack: &[u8], region: &[u32], cap: usize, i: usize, key: &[u8]) -> bool
     ensures { result ≡ same (key_at pack.now (place_in region.now i)) key.now }
 {
     let own = key_of(pack, region, cap, i);
-    same_bytes(own, key)
+    own == key
 }
 
-// The slot that holds the key, or the first free one from its hash on.
-fn probe(pack: &[u8], slots: &[u32], region: &[u32], cap: usize, h: usize, key: &[u8]) -> Slot
+// The slot that holds the key, or, as `Err`, the first free one from its hash on.
+fn probe(
+    pack: &[u8],
+    slots: &[u32],
+    region: &[u32],
+    cap: usize,
+    h: usize,
+    key: &[u8],
+) -> Result<usize, usize>
     requires { Searching pack.now slots.now region.now cap h key.now }
     ensures { Probed pack.now slots.now region.now h key.now result }
 {
@@ -89,21 +80,21 @@ fn probe(pack: &[u8], slots: &[u32], region: &[u32], cap: usize, h: usize, key: 
     loop {
         let id = slots[s];
         if id == 0 {
-            break Slot::Free(s);
+            break Err(s);
         }
         if has(pack, region, cap, (id - 1) as usize, key) {
-            break Slot::Found(s);
+            break Ok(s);
         }
         s += 1;
     }
 }
 
-// The same in the whole region.
-fn search(pack: &[u8], region: &[u32], cap: usize, key: &[u8]) -> Slot
+// The same in the whole region: `Ok` at the slot that has the key, `Err` at the first free one.
+fn search(pack: &[u8], region: &[u32], cap: usize, key: &[u8]) -> Result<usize, usize>
     requires { Keyed pack.now region.now cap }
     ensures { Probed pack.now (slots_in region.now cap) region.now (hash_of (hashes_for cap) key.now) key.now result }
 {
-    let h = hash_bytes(Region::HASHES * cap + 1, key);
+    let h = hash(Region::HASHES * cap + 1, key);
     let a = Region::PLACE * cap + Region::AT;
     probe(
         pack,
@@ -115,19 +106,17 @@ fn search(pack: &[u8], region: &[u32], cap: usize, key: &[u8]) -> Slot
     )
 }
 
-// The record that has this key.
-pub fn find(pack: &[u8], region: &[u32], cap: usize, key: &[u8]) -> Sought
+// The record that has this key, or none.
+pub fn find(pack: &[u8], region: &[u32], cap: usize, key: &[u8]) -> Option<usize>
     requires { Keyed pack.now region.now cap }
     ensures { Finds pack.now region.now key.now result }
 {
-    match search(pack, region, cap, key) {
-        Slot::Found(s) => {
-            let a = Region::PLACE * cap + Region::AT;
-            let id = region[a + s];
-            Sought::At((id - 1) as usize)
-        }
-        Slot::Free(_) => Sought::Nowhere,
-    }
+    let Ok(s) = search(pack, region, cap, key) else {
+        return None;
+    };
+    let a = Region::PLACE * cap + Region::AT;
+    let id = region[a + s];
+    Some((id - 1) as usize)
 }
 
 // A record more, behind the others; the slots are left as they were.
@@ -155,8 +144,7 @@ pub fn enter(pack: &[u8], region: &mut [u32], cap: usize, at: usize, from: usize
     ensures { Enters pack.now region.old region.new cap (record { at = at; from = from }) result }
 {
     let end = end_of(pack, at);
-    let found = search(pack, region, cap, &pack[from..end]);
-    let Slot::Free(s) = found else {
+    let Err(s) = search(pack, region, cap, &pack[from..end]) else {
         return Entered::Old;
     };
     append(region, cap, at, from);
@@ -176,5 +164,5 @@ pub fn clear(region: &mut [u32], cap: usize, keys: bool)
         return;
     }
     let a = Region::PLACE * cap + Region::AT;
-    zero_words(&mut region[a..a + (Region::SLOTS * cap + 1)]);
+    region[a..a + (Region::SLOTS * cap + 1)].fill(0);
 }

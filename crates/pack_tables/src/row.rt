@@ -20,12 +20,10 @@ pub fn all_below(body: &[u8], at: usize, n: usize, bound: usize) -> bool
     requires { at + 4 * n ≤ length body.now }
     ensures { result ≡ all (λ w. ltb w bound) (words n (drop at body.now)) }
 {
-    let mut i = 0;
-    while i < n {
+    for i in 0..n {
         if bound <= word(body, at, i) as usize {
             return false;
         }
-        i += 1;
     }
     true
 }

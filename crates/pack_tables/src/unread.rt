@@ -19,8 +19,8 @@ impl<'a> Unread<'a> {
         Unread { tail, last }
     }
 
-    // The first unread record's header.
-    pub fn header(self) -> Header
+    // The first unread record's header, if it is whole.
+    pub fn header(self) -> Option<Header>
         ensures { HeadsFirst self.entry.tail.now self.entry.last result }
     {
         header_of(self.tail, self.last)

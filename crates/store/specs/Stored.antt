@@ -1,4 +1,5 @@
 -- What the store's two slices owe to the list of its nodes, and what its functions ask and answer.
+use Rattle.std.specs.Prelude.{Option, Some, None, Result, Ok, Err}
 use Rattle.std.specs.Prelude.{◌≡◌, List, [], ◌∷◌, ◌++◌, ℕ, ◌+◌, ◌-◌, ◌*◌, ◌/◌, ◌≤◌, ◌<◌, length, get_or, set, drop}
 use Rattle.definition.specs.Pack.{Node, no_node}
 use Rattle.definition.specs.Store.{intern, pattern_words, nodes_in, nothing}
@@ -8,10 +9,7 @@ use Rattle.base.specs.Probe.{Table, Passed}
 use Rattle.base.specs.Hash.{hash_of}
 use Rattle.store.specs.Words.{key_of, node_with, start, Begins}
 use Rattle.store.specs.declared.nodes.Store.{Store}
-use Rattle.store.specs.declared.nodes.Slot.{Slot}
-use Rattle.store.specs.declared.nodes.Slot.TheVariants.{Found, Free}
-use Rattle.store.specs.declared.nodes.Interned.{Interned}
-use Rattle.store.specs.declared.nodes.Interned.TheVariants.{Id, Short}
+use Rattle.base.specs.declared.id.Pattern.{Pattern}
 
 -- the nodes that a store has
 unfoldable pub nodes : List ℕ → Store → List Node
@@ -79,13 +77,13 @@ written s words = pattern_words s ++ drop (length (pattern_words s)) words
 
 -- what `intern` answers: the definition's number and store, with its words written; or short, with nothing written, just when these
 -- words are more than there are
-abbrev pub Answer : List ℕ → List ℕ → List ℕ → List ℕ → Store → List ℕ → Interned → Type 0
-Answer index words index' words' st key (Id p st') =
+abbrev pub Answer : List ℕ → List ℕ → List ℕ → List ℕ → Store → List ℕ → Option (Pattern × Store) → Type 0
+Answer index words index' words' st key (Some (p, st')) =
     (p.0 ≡ (intern (nodes words st) (node_with key)).number)
     × (nodes words' st' ≡ (intern (nodes words st) (node_with key)).store)
     × (words' ≡ written (intern (nodes words st) (node_with key)).store words)
     × Stored index' words' st'
-Answer index words index' words' st key Short = (length words < length (pattern_words (intern (nodes words st) (node_with key)).store)) × (index' ≡ index) × (words' ≡ words)
+Answer index words index' words' st key None = (length words < length (pattern_words (intern (nodes words st) (node_with key)).store)) × (index' ≡ index) × (words' ≡ words)
 
 -- ---- between the store's own functions
 pub record Searching (slots index words : List ℕ) (st : Store) (h : ℕ) (key : List ℕ) : Type 0 where
@@ -95,9 +93,9 @@ pub record Searching (slots index words : List ℕ) (st : Store) (h : ℕ) (key 
   pub below : h < st.hashes
   pub some : 0 < length key
 
-abbrev pub Probed : List ℕ → List Node → ℕ → List ℕ → Slot → Type 0
-Probed slots s h key (Found t) = (t < length slots) × (0 < get_or slots t 0) × (node_at s (get_or slots t 0 - 1) ≡ node_with key)
-Probed slots s h key (Free t) = Passed slots (node_at s) (node_with key) h t × (get_or slots t 0 ≡ 0)
+abbrev pub Probed : List ℕ → List Node → ℕ → List ℕ → Result ℕ ℕ → Type 0
+Probed slots s h key (Ok t) = (t < length slots) × (0 < get_or slots t 0) × (node_at s (get_or slots t 0 - 1) ≡ node_with key)
+Probed slots s h key (Err t) = Passed slots (node_at s) (node_with key) h t × (get_or slots t 0 ≡ 0)
 
 -- there is room for the key
 pub record Fits (index words : List ℕ) (st : Store) (key : List ℕ) : Type 0 where

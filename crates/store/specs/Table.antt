@@ -1,4 +1,5 @@
 -- The store's laws: what stands where, how a node is entered, appended and added, how the table is made anew.
+use Rattle.std.specs.Prelude.{Some, None, Ok, Err}
 use Rattle.std.specs.Prelude.{◌≡◌, Bool, true, false, ℕ, ◌+◌, ◌-◌, ◌*◌, ◌/◌, ◌≤◌, ◌<◌, take, drop, replicate}
 use Rattle.std.proofs.Math.Path.{refl, sym, ap}
 use Rattle.std.proofs.Common.{◌∙◌, add-one, arith, length-set, length-append, length-drop, take-append-drop, take-suc-set, drop-set-lt, drop-drop}
@@ -19,8 +20,6 @@ use Rattle.base.specs.Hash.{hash_of}
 use Rattle.store.specs.Words.{key_of, node_with, key_of_law, node_of_law, key-args, start, start-more, start-last, words_append, words-one, words-most, length_more, Begins, begins_nodes, begins_long, begins_take, stands}
 use Rattle.store.specs.Stored.{nodes, room_in, slots_for, slots_in, hash_node, node_at, Enough, Placed, Entered, Stored, written, longer, Searching, Probed, Appended, Adding, Rebuilding, Added, Answer}
 use Rattle.store.specs.declared.nodes.Store.{Store}
-use Rattle.store.specs.declared.nodes.Slot.TheVariants.{Found, Free}
-use Rattle.store.specs.declared.nodes.Interned.TheVariants.{Id, Short}
 
 -- what stands where the index says
 pub record Located (index words : List ℕ) (s : List Node) (i : ℕ) : Type 0 where
@@ -304,8 +303,8 @@ module _ (slots index words : List ℕ) (st : Store) (h : ℕ) (key : List ℕ) 
 -- ---- what interning answers
 module _ (index words : List ℕ) (st : Store) (key : List ℕ) (E : Stored index words st) (some : 0 < length key) where
   -- the key's node is there
-  pub found : (t : ℕ) → Probed (slots_in index words st.hashes) (nodes words st) (hash_of st.hashes key) key (Found t)
-      → (t < slots_for st.hashes) × (0 < get_or index (room_in words + t) 0) × ((p : Pattern) → p.0 ≡ get_or index (room_in words + t) 0 - 1 → Answer index words index words st key (Id p st))
+  pub found : (t : ℕ) → Probed (slots_in index words st.hashes) (nodes words st) (hash_of st.hashes key) key (Ok t)
+      → (t < slots_for st.hashes) × (0 < get_or index (room_in words + t) 0) × ((p : Pattern) → p.0 ≡ get_or index (room_in words + t) 0 - 1 → Answer index words index words st key (Some (p, st)))
   found t F =
       let s = nodes words st in
       let e = slot_at index words st s (length s) E t (omega (arith, F.0, length-slots index words st s (length s) E)) in
@@ -320,7 +319,7 @@ module _ (index words : List ℕ) (st : Store) (key : List ℕ) (E : Stored inde
       )
 
   -- it is not, and there is no room
-  pub short : (t : ℕ) → Probed (slots_in index words st.hashes) (nodes words st) (hash_of st.hashes key) key (Free t) → length words < st.used + 1 + length key → Answer index words index words st key Short
+  pub short : (t : ℕ) → Probed (slots_in index words st.hashes) (nodes words st) (hash_of st.hashes key) key (Err t) → length words < st.used + 1 + length key → Answer index words index words st key None
   short t F h =
       let s = nodes words st in
       let p : Passed (slots_in index words st.hashes) (node_at s) (node_with key) (hash_node st.hashes (node_with key)) t = rw (key_of_law key some) F.0 in
@@ -329,7 +328,7 @@ module _ (index words : List ℕ) (st : Store) (key : List ℕ) (E : Stored inde
       (rw r (omega (arith, E.placed.used)), refl, refl)
 
   -- it is not, and it was added
-  pub added : (t : ℕ) → Adding index words st key t → (index' words' : List ℕ) (st' : Store) → Added words index' words' st key st' → (p : Pattern) → p.0 ≡ st.len → Answer index words index' words' st key (Id p st')
+  pub added : (t : ℕ) → Adding index words st key t → (index' words' : List ℕ) (st' : Store) → Added words index' words' st key st' → (p : Pattern) → p.0 ≡ st.len → Answer index words index' words' st key (Some (p, st'))
   added t A index' words' st' D p k =
       let s = nodes words st in
       let r = intern-new s (node_with key) (none_alike index words st key t A) in

@@ -1,6 +1,6 @@
 // The interned store: pattern words in their final form in one slice, and in another, `index`, where each node starts and a probe
 // table of the nodes. As many nodes fit as the words lent have room for.
-ghost use Rattle.std.specs.Prelude.{◌≡◌, [], ◌+◌, ◌<◌, min, length, get_or};
+ghost use Rattle.std.specs.Prelude.{◌≡◌, [], ◌+◌, ◌<◌, length, get_or};
 ghost use Rattle.definition.specs.Pack.{no_node};
 ghost use Rattle.definition.specs.Test.{same};
 ghost use Rattle.base.specs.Probe.{Ran, taken};
@@ -8,11 +8,8 @@ ghost use Rattle.base.specs.Hash.{hash_of};
 ghost use Rattle.store.specs.Words.{key_of};
 ghost use Rattle.store.specs.Stored.{Stored, nodes, Counts, Spans, slots_in, Placed, Entered, Enough, Searching, Probed, Fits, Appended, Adding, Rebuilding, Added, Answer};
 
-use base::copy::copy_words;
-use base::hash::hash_words;
+use base::hash::hash;
 use base::id::Pattern;
-use base::same::same_words;
-use buffer::zero::zero_words;
 
 // How many nodes there are, how many words they take, and below what their hashes are.
 #[derive(Clone, Copy)]
@@ -20,30 +17,6 @@ pub struct Store {
     pub len: usize,
     pub used: usize,
     pub hashes: usize,
-}
-
-// Where a search for a key ends: at the slot that holds it, or at the first free one.
-#[derive(Clone, Copy)]
-enum Slot {
-    Found(usize),
-    Free(usize),
-}
-
-// A node's number and the store that has it, or that it is new and there is no room for it.
-#[derive(Clone, Copy)]
-pub enum Interned {
-    Id(Pattern, Store),
-    Short,
-}
-
-// The lesser of two.
-fn least(a: usize, b: usize) -> usize
-    ensures { result ≡ min a b }
-{
-    if a < b {
-        return a;
-    }
-    b
 }
 
 // The first free slot from `h` on.
@@ -76,7 +49,7 @@ impl Store {
         ensures { Stored index.new words.now result × (nodes words.now result ≡ []) }
     {
         let room = words.len() / Store::LEAST;
-        let m = least(Store::FIRST, Store::HASHES * room + 1);
+        let m = Store::FIRST.min(Store::HASHES * room + 1);
         let st = Store {
             len: 0,
             used: 0,
@@ -114,8 +87,7 @@ impl Store {
         requires { Stored index.now words.now self × (p.0 < length (nodes words.now self)) }
         ensures { result.now ≡ key_of (get_or (nodes words.now self) p.0 no_node) }
     {
-        let i = p.0 as usize;
-        self.key_at(index, words, i)
+        self.key_at(index, words, p.0 as usize)
     }
 
     // A node's head.
@@ -123,9 +95,7 @@ impl Store {
         requires { Stored index.now words.now self × (p.0 < length (nodes words.now self)) }
         ensures { result ≡ (get_or (nodes words.now self) p.0 no_node).head }
     {
-        let i = p.0 as usize;
-        let key = self.key_at(index, words, i);
-        key[0]
+        self.node(index, words, p)[0]
     }
 
     // How many arguments a node has.
@@ -133,9 +103,7 @@ impl Store {
         requires { Stored index.now words.now self × (p.0 < length (nodes words.now self)) }
         ensures { result ≡ length (get_or (nodes words.now self) p.0 no_node).args }
     {
-        let i = p.0 as usize;
-        let key = self.key_at(index, words, i);
-        key.len() - 1
+        self.node(index, words, p).len() - 1
     }
 
     // A node's argument `k`.
@@ -143,9 +111,7 @@ impl Store {
         requires { Stored index.now words.now self × (p.0 < length (nodes words.now self)) × (k < length (get_or (nodes words.now self) p.0 no_node).args) }
         ensures { result ≡ get_or (get_or (nodes words.now self) p.0 no_node).args k 0 }
     {
-        let i = p.0 as usize;
-        let key = self.key_at(index, words, i);
-        key[k + 1]
+        self.node(index, words, p)[k + 1]
     }
 
     // Whether node `i` has this key.
@@ -153,12 +119,18 @@ impl Store {
         requires { Placed index.now words.now self (nodes words.now self) × (i < length (nodes words.now self)) }
         ensures { result ≡ same (key_of (get_or (nodes words.now self) i no_node)) key.now }
     {
-        let own = self.key_at(index, words, i);
-        same_words(own, key)
+        self.key_at(index, words, i) == key
     }
 
-    // The slot that holds the key, or the first free one from its hash on.
-    fn probe(self, slots: &[u32], index: &[u32], words: &[u32], h: usize, key: &[u32]) -> Slot
+    // The slot that holds the key (`Ok`), or the first free one from its hash on (`Err`).
+    fn probe(
+        self,
+        slots: &[u32],
+        index: &[u32],
+        words: &[u32],
+        h: usize,
+        key: &[u32],
+    ) -> Result<usize, usize>
         requires { Searching slots.now index.now words.now self h key.now }
         ensures { Probed slots.now (nodes words.now self) h key.now result }
     {
@@ -166,22 +138,22 @@ impl Store {
         loop {
             let id = slots[s];
             if id == 0 {
-                break Slot::Free(s);
+                break Err(s);
             }
             if self.has(index, words, (id - 1) as usize, key) {
-                break Slot::Found(s);
+                break Ok(s);
             }
             s += 1;
         }
     }
 
     // The same in the whole index.
-    fn search(self, index: &[u32], words: &[u32], key: &[u32]) -> Slot
+    fn search(self, index: &[u32], words: &[u32], key: &[u32]) -> Result<usize, usize>
         requires { Stored index.now words.now self × (0 < length key.now) }
         ensures { Probed (slots_in index.now words.now self.hashes) (nodes words.now self) (hash_of self.hashes key.now) key.now result }
     {
         let m = self.hashes;
-        let h = hash_words(m, key);
+        let h = hash(m, key);
         let room = words.len() / Store::LEAST;
         let end = room + (m + m / 2);
         self.probe(&index[room..end], index, words, h, key)
@@ -195,13 +167,13 @@ impl Store {
         let at = self.used;
         let k = key.len();
         words[at] = (k - 1) as u32;
-        copy_words(key, &mut words[at + 1..at + 1 + k]);
+        words[at + 1..at + 1 + k].copy_from_slice(key);
         let n = self.len;
         index[n] = at as u32;
         Store {
             len: n + 1,
             used: at + 1 + k,
-            hashes: self.hashes,
+            ..self
         }
     }
 
@@ -212,7 +184,7 @@ impl Store {
     {
         let m = self.hashes;
         let key = self.key_at(index, words, i);
-        let h = hash_words(m, key);
+        let h = hash(m, key);
         let room = words.len() / Store::LEAST;
         let s = free_slot(&index[room..room + (m + m / 2)], h);
         index[room + s] = i as u32 + 1;
@@ -225,11 +197,9 @@ impl Store {
     {
         let m = self.hashes;
         let room = words.len() / Store::LEAST;
-        zero_words(&mut index[room..room + (m + m / 2)]);
-        let mut i = 0;
-        while i < self.len {
+        index[room..room + (m + m / 2)].fill(0);
+        for i in 0..self.len {
             self.enter(index, words, i);
-            i += 1;
         }
         self
     }
@@ -247,31 +217,32 @@ impl Store {
             index[room + s] = n as u32;
             return st;
         }
-        let wide = least(Store::GROWTH * m, Store::HASHES * room + 1);
-        Store {
-            len: n,
-            used: st.used,
-            hashes: wide,
-        }
-        .rebuild(index, words)
+        let wide = (Store::GROWTH * m).min(Store::HASHES * room + 1);
+        Store { hashes: wide, ..st }.rebuild(index, words)
     }
 
-    // The number of the key's node, which is put behind the others if it is new.
-    pub fn intern(self, index: &mut [u32], words: &mut [u32], key: &[u32]) -> Interned
+    // The number of the key's node, which is put behind the others if it is new, and the store that has it; none where it is new and the
+    // words have no room.
+    pub fn intern(
+        self,
+        index: &mut [u32],
+        words: &mut [u32],
+        key: &[u32],
+    ) -> Option<(Pattern, Store)>
         requires { Stored index.old words.old self × (0 < length key.now) }
         ensures { Answer index.old words.old index.new words.new self key.now result }
     {
         match self.search(index, words, key) {
-            Slot::Found(s) => {
+            Ok(s) => {
                 let room = words.len() / Store::LEAST;
-                Interned::Id(Pattern(index[room + s] - 1), self)
+                Some((Pattern(index[room + s] - 1), self))
             }
-            Slot::Free(s) => {
+            Err(s) => {
                 if words.len() - self.used <= key.len() {
-                    return Interned::Short;
+                    return None;
                 }
                 let st = self.add(index, words, key, s);
-                Interned::Id(Pattern(self.len as u32), st)
+                Some((Pattern(self.len as u32), st))
             }
         }
     }

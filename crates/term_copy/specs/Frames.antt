@@ -1,4 +1,5 @@
 -- What the functions of the walk ask of each other and answer.
+use Rattle.std.specs.Prelude.{Option, Some, None}
 use Rattle.std.specs.Prelude.{◌≡◌, Bool, List, ℕ, suc, ◌+◌, ◌<◌, ltb, length, get_or, set}
 use Rattle.std.proofs.Math.Option.{none}
 use Rattle.definition.specs.Store.{below}
@@ -14,8 +15,6 @@ use Rattle.memo.specs.Recall.{Remembers}
 use Rattle.store.specs.declared.nodes.Store.{Store}
 use Rattle.memo.specs.declared.memo.Memo.{Memo}
 use Rattle.term_copy.specs.declared.node.Copying.{Copying}
-use Rattle.term_copy.specs.declared.copy.Turn.{Turn}
-use Rattle.term_copy.specs.declared.copy.Turn.TheVariants as turns
 use Rattle.graph.specs.declared.graph.Graph.{Graph as Counts}
 use Rattle.term_copy.specs.Places.{table_in, value_in, Beside}
 use Rattle.theory.specs.Copies.Terms.{Patterns}
@@ -41,12 +40,12 @@ abbrev pub turn_of : List ℕ → List ℕ → List ℕ → Copying → Store �
 turn_of work words flex l st top c = turn (kids_in (nodes words st)) is_copied (copy_at (nodes words st) (marks_in flex)) (frames_in work l.walk top) c
 
 -- what `advance` answers: the machine after one turn, or that its graph has more cells than there are
-abbrev pub Advances : List ℕ → List ℕ → List ℕ → List ℕ → List ℕ → List ℕ → Copying → Store → Memo → Counts → ℕ → Turn → Type 0
-Advances work work' words cells cells' flex l st memo g top (turns.On k g') =
+abbrev pub Advances : List ℕ → List ℕ → List ℕ → List ℕ → List ℕ → List ℕ → Copying → Store → Memo → Counts → ℕ → Option (ℕ × Counts) → Type 0
+Advances work work' words cells cells' flex l st memo g top (Some (k, g')) =
     ((P : Patterns (nodes words st)) (c : Copy) → Going work words cells flex l st memo P g (suc top) c
     → Going work' words cells' flex l st memo P g' k (turn_of work words flex l st (suc top) c).state × (frames_in work' l.walk k ≡ (turn_of work words flex l st (suc top) c).stack))
     × Beside work work' cells l
-Advances work work' words cellsₒ cells' flex l st memo g top turns.Short =
+Advances work work' words cellsₒ cells' flex l st memo g top None =
     ((P : Patterns (nodes words st)) (c : Copy) → Going work words cellsₒ flex l st memo P g (suc top) c → length cellsₒ < cells (turn_of work words flex l st (suc top) c).state.graph) × Beside work work' cellsₒ l
 
 -- what the frames still give
@@ -54,10 +53,10 @@ abbrev pub left_of : List ℕ → List ℕ → List ℕ → Copying → Store �
 left_of work words flex l st top c = left (kids_in (nodes words st)) is_copied (copy_at (nodes words st) (marks_in flex)) (length (nodes words st)) (frames_in work l.walk top) c
 
 -- what `run` answers: what the frames gave, or that its graph has more cells than there are
-abbrev pub Runs : List ℕ → List ℕ → List ℕ → List ℕ → List ℕ → List ℕ → Copying → Store → Memo → Counts → ℕ → Turn → Type 0
-Runs work work' words cells cells' flex l st memo g top (turns.On k g') =
+abbrev pub Runs : List ℕ → List ℕ → List ℕ → List ℕ → List ℕ → List ℕ → Copying → Store → Memo → Counts → ℕ → Option (ℕ × Counts) → Type 0
+Runs work work' words cells cells' flex l st memo g top (Some (k, g')) =
     ((P : Patterns (nodes words st)) (c : Copy) → Going work words cells flex l st memo P g top c → Holding work' words cells' flex l st memo g' (left_of work words flex l st top c)) × Beside work work' cells l
-Runs work work' words cellsₒ cells' flex l st memo g top turns.Short =
+Runs work work' words cellsₒ cells' flex l st memo g top None =
     ((P : Patterns (nodes words st)) (c : Copy) → Going work words cellsₒ flex l st memo P g top c → length cellsₒ < cells (left_of work words flex l st top c).graph) × Beside work work' cellsₒ l
 
 -- the memo is empty, no variable is noted, and there is one frame; beside them nothing has changed

@@ -1,4 +1,5 @@
 -- What the words of work hold while a pattern is copied, and what copying asks and answers.
+use Rattle.std.specs.Prelude.{Option, Some, None}
 use Rattle.std.specs.Prelude.{◌≡◌, List, [], ◌∷◌, ℕ, zero, suc, ◌+◌, ◌*◌, ◌-◌, ◌/◌, ◌≤◌, ◌<◌, length, get_or}
 use Rattle.std.proofs.Math.Option.{some}
 use Rattle.definition.specs.Verdict.{value_of}
@@ -20,9 +21,8 @@ use Rattle.theory.specs.Unification.Inner.{Inner}
 use Rattle.graph.specs.Inner.{HoldsInner}
 use Rattle.term_copy.specs.declared.node.Copying.{Copying}
 use Rattle.term_copy.specs.Places.{table_in, rows_at, rows_in, value_in, Apart, Beside}
-use Rattle.term_copy.specs.declared.copy.Copied.{Copied}
-use Rattle.term_copy.specs.declared.copy.Copied.TheVariants as answers
 use Rattle.graph.specs.declared.graph.Graph.{Graph as Counts}
+use Rattle.base.specs.declared.id.Node.{Node as Id}
 
 -- ---- the regions
 -- the store's index
@@ -93,9 +93,9 @@ pub record Made (work cells flex : List ℕ) (l : Copying) (g : Counts) (x p : �
   pub variables : (k : ℕ) → k < length flex → get_or work (l.variables + k) 0 ≡ word_of (value_of k r.variables)
 
 -- a fresh copy of the pattern in whatever inner graph is held; or short, when it has more cells than there are
-abbrev pub Copies : List ℕ → List ℕ → List ℕ → List ℕ → List ℕ → List ℕ → Copying → Store → Counts → ℕ → Copied → Type 0
-Copies work work' words cellsₒ cells' flex l st g p (answers.At x g' memo') =
+abbrev pub Copies : List ℕ → List ℕ → List ℕ → List ℕ → List ℕ → List ℕ → Copying → Store → Counts → ℕ → Option (Id × Counts × Memo) → Type 0
+Copies work work' words cellsₒ cells' flex l st g p (Some (x, g', memo')) =
     ((h : Graph) → Shows cellsₒ (graph_in work l) g h → Inner h → Made work' cells' flex l g' x.0 p (copy (nodes words st) (marks_in flex) h p))
     × Remembers (table_in work' l) memo' × Beside work work' cellsₒ l
-Copies work work' words cellsₒ cells' flex l st g p answers.Short =
+Copies work work' words cellsₒ cells' flex l st g p None =
     ((h : Graph) → Shows cellsₒ (graph_in work l) g h → Inner h → length cellsₒ < cells (copy (nodes words st) (marks_in flex) h p).graph) × Beside work work' cellsₒ l

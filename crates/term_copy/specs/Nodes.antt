@@ -1,4 +1,5 @@
 -- A node more in the graph, and its copy in the memo.
+use Rattle.std.specs.Prelude.{Option, Some, None}
 use Rattle.std.specs.Prelude.{◌≡◌, Bool, true, false, List, map, ℕ, ◌+◌, ◌-◌, ◌≤◌, ◌<◌, length, get_or, set, drop}
 use Rattle.std.proofs.Common.{sym, ap, ◌∙◌, subst, arith, eq-eqb, ne_eqb}
 use Rattle.std.proofs.Math.Option.{some}
@@ -13,8 +14,6 @@ use Rattle.graph.specs.Cells.{mark_in, nodes_few}
 use Rattle.graph.specs.Links.{Holds}
 use Rattle.graph.specs.Inner.{many-nodes}
 use Rattle.graph.specs.Pushes.{Pushes, arguments_to, filled-pushed}
-use Rattle.graph.specs.declared.graph.Pushed.{Pushed}
-use Rattle.graph.specs.declared.graph.Pushed.TheVariants.{At, Short}
 use Rattle.base.specs.declared.id.Node.{Node}
 use Rattle.term_copy.specs.declared.node.Copying.{Copying}
 use Rattle.term_copy.specs.Places.{table_in, rows_at, rows_in, copy_in, Apart}
@@ -23,7 +22,7 @@ use Rattle.graph.specs.declared.graph.Graph.{Graph as Counts}
 
 -- ---- a node more in the graph
 -- its number is a word, and so is the next one
-pub number_small : (cells cells' table table' : List ℕ) (g g' : Counts) (v : Vertex) (x : Node) → Holds cells table g → Pushes cells cells' table table' g v (At x g') → x.0 < nothing
+pub number_small : (cells cells' table table' : List ℕ) (g g' : Counts) (v : Vertex) (x : Node) → Holds cells table g → Pushes cells cells' table table' g v (Some (x, g')) → x.0 < nothing
 number_small cells cells' table table' g g' v x H P =
     let S = H.1 in
     omega (arith, (P.0 H.0 S).0, many-nodes cells table g H.0 S, nodes_few cells table g S.laid, S.laid.fits, S.laid.small)
@@ -31,28 +30,28 @@ number_small cells cells' table table' g g' v x H P =
 -- the rows that came back
 module _ (work cells table' : List ℕ) (l : Copying) (fits : rows_at cells l ≤ length work) (long : length table' ≡ length (rows_in work cells l)) where
   -- hold what was pushed
-  pub grows : (cells' : List ℕ) (g : Counts) (v : Vertex) (r : Pushed) → Pushes cells cells' (rows_in work cells l) table' g v r → Grows work (put l.graph (rows_at cells l - l.graph) table' work) cells cells' l g v r
+  pub grows : (cells' : List ℕ) (g : Counts) (v : Vertex) (r : Option (Node × Counts)) → Pushes cells cells' (rows_in work cells l) table' g v r → Grows work (put l.graph (rows_at cells l - l.graph) table' work) cells cells' l g v r
   grows cells' g v r P = (
     subst (λ (t : List ℕ). Pushes cells cells' (rows_in work cells l) t g v r) (sym (back l.graph (rows_at cells l) work table' (omega arith) fits long)) P,
     back_outside l.graph (rows_at cells l) work table' (omega arith) fits long,
   )
 
 -- a variable's copy, with the mark as it was read
-pub variable-made : (work cells cells' flex table' : List ℕ) (l : Copying) (g : Counts) → rows_at cells l ≤ length work → length table' ≡ length (rows_in work cells l) → (sort k mark : ℕ) → mark_in mark ≡ mark_at flex k → (r : Pushed)
+pub variable-made : (work cells cells' flex table' : List ℕ) (l : Copying) (g : Counts) → rows_at cells l ≤ length work → length table' ≡ length (rows_in work cells l) → (sort k mark : ℕ) → mark_in mark ≡ mark_at flex k → (r : Option (Node × Counts))
     → Pushes cells cells' (rows_in work cells l) table' g (variable_vertex sort (mark_in mark) (mark_in 0)) r → Grows work (put l.graph (rows_at cells l - l.graph) table' work) cells cells' l g (variable_vertex sort (mark_at flex k) (mark_in 0)) r
 variable-made work cells cells' flex table' l g fits long sort k mark m r P =
     grows work cells table' l fits long cells' g (variable_vertex sort (mark_at flex k) (mark_in 0)) r (subst (λ (b : Bool). Pushes cells cells' (rows_in work cells l) table' g (variable_vertex sort b (mark_in 0)) r) m P)
 
 -- an application's copy, over its arguments as they were gathered behind the place of its head
 module _ (work cells : List ℕ) (l : Copying) (g : Counts) (H : Holds cells (rows_in work cells l) g) (fits : rows_at cells l ≤ length work) (copied : List ℕ) (end : ℕ) (more : g.used + 1 ≤ end) (within : end ≤ length cells) (many : length copied ≡ length (arguments_to cells g end)) where
-  pub application_made : (cells' table' : List ℕ) → length table' ≡ length (rows_in work cells l) → (head : ℕ) (args : List ℕ) → copied ≡ args → (r : Pushed)
+  pub application_made : (cells' table' : List ℕ) → length table' ≡ length (rows_in work cells l) → (head : ℕ) (args : List ℕ) → copied ≡ args → (r : Option (Node × Counts))
       → Pushes (put (g.used + 1) (end - (g.used + 1)) copied cells) cells' (rows_in work cells l) table' g (applied head (arguments_to (put (g.used + 1) (end - (g.used + 1)) copied cells) g end)) r
       → Grows work (put l.graph (rows_at cells l - l.graph) table' work) cells cells' l g (applied head args) r
   application_made cells' table' long head args e r P =
       grows work cells table' l fits long cells' g (applied head args) r (filled-pushed cells (rows_in work cells l) copied g end H.1.laid more within many cells' table' args head e r P)
 
 -- a node's copy is the one or the other
-module _ (work work' cells cells' flex : List ℕ) (l : Copying) (memo : Memo) (g : Counts) (key : List ℕ) (r : Pushed) where
+module _ (work work' cells cells' flex : List ℕ) (l : Copying) (memo : Memo) (g : Counts) (key : List ℕ) (r : Option (Node × Counts)) where
   -- by whether its head says that it is a variable
   abbrev GrowsBy : Bool → Type 0
   GrowsBy b = Grows work work' cells cells' l g (elim b [ true ↦ variable_vertex (get_or key 2 0) (mark_at flex (get_or key 1 0)) false | false ↦ applied (get_or key 0 0) (map (copy_in work l memo) (drop 1 key)) ]) r
@@ -67,19 +66,19 @@ module _ (work work' cells cells' flex : List ℕ) (l : Copying) (memo : Memo) (
 
 -- ---- the copy is noted, and put into the memo
 module _ (work cells cells' flex : List ℕ) (l : Copying) (memo : Memo) (g : Counts) (p : ℕ) (key : List ℕ) (A : Apart work cells flex l) (H : Holds cells (rows_in work cells l) g) (mid : List ℕ)
-    (r : Pushed) (G₀ : Grows work mid cells cells' l g (vertex_for work l memo flex key) r) where
+    (r : Option (Node × Counts)) (G₀ : Grows work mid cells cells' l g (vertex_for work l memo flex key) r) where
   -- the copy
   abbrev v : Vertex
   v = vertex_for work l memo flex key
 
   -- with what was answered
-  answered : (q : Pushed) → r ≡ q → Grows work mid cells cells' l g v q
-  answered q e = subst (λ (o : Pushed). Grows work mid cells cells' l g v o) e G₀
+  answered : (q : Option (Node × Counts)) → r ≡ q → Grows work mid cells cells' l g v q
+  answered q e = subst (λ (o : Option (Node × Counts)). Grows work mid cells cells' l g v o) e G₀
 
   -- there was no room
-  pub copied_short : r ≡ Short → NoRoom work mid cells cells' flex l memo g key
+  pub copied_short : r ≡ None → NoRoom work mid cells cells' flex l memo g key
   copied_short e =
-      let G = answered Short e in
+      let G = answered None e in
       let O = G.1 in (
         G.0,
         record {
@@ -88,10 +87,10 @@ module _ (work cells cells' flex : List ℕ) (l : Copying) (memo : Memo) (g : Co
         },
       )
 
-  module _ (x : Node) (g' : Counts) (e : r ≡ At x g') where
+  module _ (x : Node) (g' : Counts) (e : r ≡ Some (x, g')) where
     -- what noting it asks
     pub note_small : x.0 < nothing
-    note_small = number_small cells cells' (rows_in work cells l) (rows_in mid cells l) g g' v x H (answered (At x g') e).0
+    note_small = number_small cells cells' (rows_in work cells l) (rows_in mid cells l) g g' v x H (answered (Some (x, g')) e).0
 
     -- and the variables' words are within
     pub note-fits : l.graph ≤ length mid
@@ -101,9 +100,9 @@ module _ (work cells cells' flex : List ℕ) (l : Copying) (memo : Memo) (g : Co
       -- the graph with it, and its word
       made-noted : Makes work noted₁ cells cells' flex l g v (number_for key) x g'
       made-noted =
-          let G = answered (At x g') e in
+          let G = answered (Some (x, g')) e in
           let q : rows_in noted₁ cells l ≡ rows_in mid cells l = lent-behind l.variables l.graph mid noted₁ N.0 l.graph (rows_at cells l) (omega arith) (omega arith) (omega (arith, A.rows, G.1.long)) in (
-            subst (λ (t : List ℕ). Pushes cells cells' (rows_in work cells l) t g v (At x g')) (sym q) G.0,
+            subst (λ (t : List ℕ). Pushes cells cells' (rows_in work cells l) t g v (Some (x, g'))) (sym q) G.0,
             outside_then l.variables (rows_at cells l) work mid noted₁
                 (outside_wider l.graph (rows_at cells l) l.variables (rows_at cells l) work mid (omega (arith, A.marks)) (omega arith) G.1)
                 (outside_wider l.variables l.graph l.variables (rows_at cells l) mid noted₁ (omega arith) (omega arith) N.0),
@@ -127,7 +126,7 @@ module _ (work cells cells' flex : List ℕ) (l : Copying) (memo : Memo) (g : Co
           let B = back l.copied l.walk noted₁ table' A.table table_inside long in
           let O = back_outside l.copied l.walk noted₁ table' A.table table_inside long in
           let rows : rows_in last cells l ≡ rows_in noted₁ cells l = lent-behind l.copied l.walk noted₁ last O l.graph (rows_at cells l) (omega arith) (omega (arith, A.stack, A.marks)) (omega (arith, A.rows, M.1.long)) in (
-            subst (λ (t : List ℕ). Pushes cells cells' (rows_in work cells l) t g v (At x g')) (sym rows) M.0,
+            subst (λ (t : List ℕ). Pushes cells cells' (rows_in work cells l) t g v (Some (x, g'))) (sym rows) M.0,
             record {
               beside = outside_then l.copied (rows_at cells l) work noted₁ last
                   (outside_wider l.variables (rows_at cells l) l.copied (rows_at cells l) work noted₁ (omega (arith, A.table, A.stack)) (omega arith) M.1)

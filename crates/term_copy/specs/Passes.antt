@@ -1,4 +1,5 @@
 -- A frame's pattern: whether it was copied before, and how many nodes stand below it.
+use Rattle.std.specs.Prelude.{Option, Some, None, refl, is_some as has_some}
 use Rattle.std.specs.Prelude.{◌≡◌, Bool, true, false, List, ℕ, ◌-◌, eqb, length, get_or}
 use Rattle.std.proofs.Math.Path.{sym, ap}
 use Rattle.std.proofs.Common.{◌∙◌, eq-eqb, ne_eqb, length-drop}
@@ -9,8 +10,6 @@ use Rattle.definition.specs.Classes.{is_some}
 use Rattle.store.specs.Words.{node_with}
 use Rattle.memo.specs.Recall.{known}
 use Rattle.memo.specs.declared.memo.Memo.{Memo}
-use Rattle.memo.specs.declared.memo.Known.{Known}
-use Rattle.memo.specs.declared.memo.Known.TheVariants.{Value, Nothing}
 use Rattle.term_copy.specs.declared.node.Copying.{Copying}
 use Rattle.term_copy.specs.Places.{value_in}
 
@@ -19,17 +18,28 @@ pub passes-not : (taken : ℕ) (b : Bool) → (taken ≡ 0 → ⊥) → false �
 unfolding ◌and◌
 passes-not taken b h = rw (ne_eqb taken 0 h, ◌and◌)
 
+-- a memo has what it is known for
+known_some : (r : Option ℕ) → has_some r ≡ is_some (known r)
+unfolding is_some
+known_some (Some v) = refl
+known_some None = refl
+
 -- a new one is just if the memo has its pattern
-module _ (work : List ℕ) (l : Copying) (memo : Memo) (p taken : ℕ) (r : Known) (z : taken ≡ 0) (e : known r ≡ value_in work l memo p) where
+module _ (work : List ℕ) (l : Copying) (memo : Memo) (p taken : ℕ) (r : Option ℕ) (z : taken ≡ 0) (e : known r ≡ value_in work l memo p) where
   -- it has
-  pub passes_some : (v : ℕ) → r ≡ Value v → true ≡ (eqb taken 0 and is_some (value_in work l memo p))
+  pub passes_some : (v : ℕ) → r ≡ Some v → true ≡ (eqb taken 0 and is_some (value_in work l memo p))
   unfolding ◌and◌ is_some
   passes_some v f = let g : value_in work l memo p ≡ some v = sym e ∙ ap known f in rw (eq-eqb taken 0 z, g)
 
   -- it has not
-  pub passes_none : r ≡ Nothing → false ≡ (eqb taken 0 and is_some (value_in work l memo p))
+  pub passes_none : r ≡ None → false ≡ (eqb taken 0 and is_some (value_in work l memo p))
   unfolding ◌and◌ is_some
   passes_none f = let g : value_in work l memo p ≡ none = sym e ∙ ap known f in rw (eq-eqb taken 0 z, g)
+
+  -- whether it has
+  pub passes_new : has_some r ≡ (eqb taken 0 and is_some (value_in work l memo p))
+  unfolding ◌and◌
+  passes_new = rw (eq-eqb taken 0 z, ← e) (known_some r)
 
 -- ---- how many nodes stand below a key's
 -- below a variable's there is none

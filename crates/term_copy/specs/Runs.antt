@@ -1,4 +1,5 @@
 -- The turns together: what is left gives the whole, and fewer turns are left with each.
+use Rattle.std.specs.Prelude.{Some, None}
 use Rattle.std.specs.Prelude.{◌≡◌, refl, Bool, true, false, ℕ, suc, ◌+◌, ◌*◌, ◌-◌, ◌≤◌, ◌<◌, length, get_or}
 use Rattle.std.proofs.Common.{sym, ◌∙◌, arith}
 use Rattle.std.proofs.Math.Path.{ap, ap₂, subst}
@@ -20,7 +21,6 @@ use Rattle.memo.specs.Recall.{recall}
 use Rattle.store.specs.declared.nodes.Store.{Store}
 use Rattle.memo.specs.declared.memo.Memo.{Memo}
 use Rattle.term_copy.specs.declared.node.Copying.{Copying}
-use Rattle.term_copy.specs.declared.copy.Turn.TheVariants as turns
 use Rattle.term_copy.specs.Places.{table_in, rows_at, Beside}
 use Rattle.theory.specs.Copies.Terms.{Patterns}
 use Rattle.graph.specs.Cells.{marks_in, cells-more}
@@ -56,7 +56,7 @@ module _ (words flex : List ℕ) (l : Copying) (st : Store) (memo : Memo) (P : P
       ap₂ (λ (a b : ℕ). 2 * (a - took (kids_in s) (frames_in work l.walk top)) + b) u (length_frames work l.walk top)
 
   -- a turn leaves fewer
-  pub run_less : (work work' cells₀ cells' : List ℕ) (g g' : Counts) (top k : ℕ) (c : Copy) → Going work words cells₀ flex l st memo P g (suc top) c → Advances work work' words cells₀ cells' flex l st memo g top (turns.On k g')
+  pub run_less : (work work' cells₀ cells' : List ℕ) (g g' : Counts) (top k : ℕ) (c : Copy) → Going work words cells₀ flex l st memo P g (suc top) c → Advances work work' words cells₀ cells' flex l st memo g top (Some (k, g'))
       → turns_most work' words l st memo k < turns_most work words l st memo (suc top)
   unfolding frames_in
   run_less work work' cells₀ cells' g g' top k c G A =
@@ -104,7 +104,7 @@ module _ (work₀ work words cells₀ cells₁ flex : List ℕ) (l : Copying) (s
   loops_ready top L R = let r = L.runs R.0 R.1 R.2 in (R.0, r.state, r.going)
 
   -- no frame is left
-  pub loops_done : (top : ℕ) → top ≡ 0 → Loops work₀ work words cells₀ cells₁ flex l st memo g₀ g top → Runs work₀ work words cells₀ cells₁ flex l st memo g₀ 1 (turns.On 0 g)
+  pub loops_done : (top : ℕ) → top ≡ 0 → Loops work₀ work words cells₀ cells₁ flex l st memo g₀ g top → Runs work₀ work words cells₀ cells₁ flex l st memo g₀ 1 (Some (0, g))
   unfolding frames_in
   loops_done top z L = (
     λ P c G.
@@ -122,7 +122,7 @@ module _ (work₀ work words cells₀ cells₁ flex : List ℕ) (l : Copying) (s
     kept P c G = (turn-kept (kids_in (nodes words st)) is_copied (copy_at (nodes words st) (marks_in flex)) (λ m. m) (kids_fall (nodes words st) P.earlier) (length (nodes words st)) (frame (get_or work (l.walk + 2 * top) 0) (get_or work (l.walk + 2 * top + 1) 0)) (frames_in work l.walk top) c G.stacked).result
 
     -- a turn more
-    pub loops_on : (g' : Counts) (k : ℕ) → length cells' ≡ length cells₁ → Advances work work' words cells₁ cells' flex l st memo g top (turns.On k g') → Loops work₀ work' words cells₀ cells' flex l st memo g₀ g' k
+    pub loops_on : (g' : Counts) (k : ℕ) → length cells' ≡ length cells₁ → Advances work work' words cells₁ cells' flex l st memo g top (Some (k, g')) → Loops work₀ work' words cells₀ cells' flex l st memo g₀ g' k
     loops_on g' k e A = record {
       long = e ∙ L.long;
       beside = beside_then work₀ work work' cells₀ cells₁ l L.long L.beside A.1;
@@ -138,11 +138,11 @@ module _ (work₀ work words cells₀ cells₁ flex : List ℕ) (l : Copying) (s
     }
 
     -- it leaves fewer
-    loops_less : (g' : Counts) (k : ℕ) → Advances work work' words cells₁ cells' flex l st memo g top (turns.On k g') → Ready work₀ words cells₀ flex l st memo g₀ 1 → turns_most work' words l st memo k < turns_most work words l st memo (suc top)
+    loops_less : (g' : Counts) (k : ℕ) → Advances work work' words cells₁ cells' flex l st memo g top (Some (k, g')) → Ready work₀ words cells₀ flex l st memo g₀ 1 → turns_most work' words l st memo k < turns_most work words l st memo (suc top)
     loops_less g' k A R = let r = L.runs R.0 R.1 R.2 in run_less words flex l st memo R.0 work work' cells₁ cells' g g' top k r.state r.going A
 
     -- a turn without room: what is left to copy has no fewer cells
-    pub loops_short : Advances work work' words cells₁ cells' flex l st memo g top turns.Short → Runs work₀ work' words cells₀ cells' flex l st memo g₀ 1 turns.Short
+    pub loops_short : Advances work work' words cells₁ cells' flex l st memo g top None → Runs work₀ work' words cells₀ cells' flex l st memo g₀ 1 None
     loops_short A = (
       λ P c G.
           let r = L.runs P c G in
@@ -156,7 +156,7 @@ module _ (work₀ work words cells₀ cells₁ flex : List ℕ) (l : Copying) (s
 
   -- fewer turns are left
   pub loops_fewer : (top : ℕ) → 0 < top → Loops work₀ work words cells₀ cells₁ flex l st memo g₀ g top → Ready work₀ words cells₀ flex l st memo g₀ 1 → (work' cells' : List ℕ) (g' : Counts) (k : ℕ)
-      → Advances work work' words cells₁ cells' flex l st memo g (top - 1) (turns.On k g') → turns_most work' words l st memo k < turns_most work words l st memo top
+      → Advances work work' words cells₁ cells' flex l st memo g (top - 1) (Some (k, g')) → turns_most work' words l st memo k < turns_most work words l st memo top
   loops_fewer top h L R work' cells' g' k A =
       let e : top ≡ suc (top - 1) = omega arith in
       subst (λ (i : ℕ). turns_most work' words l st memo k < turns_most work words l st memo i) (sym e) (loops_less (top - 1) (loops_at top h L) work' cells' g' k A R)

@@ -1,4 +1,5 @@
 -- What the functions that copy a node ask of each other and answer.
+use Rattle.std.specs.Prelude.{Option as Optional, Some, None}
 use Rattle.std.specs.Prelude.{◌≡◌, Bool, true, false, List, map, ℕ, suc, ◌+◌, ◌≤◌, ◌<◌, eqb, length, get_or, set, drop}
 use Rattle.std.proofs.Math.Option.{Option, none, some}
 use Rattle.definition.specs.Store.{variable_head}
@@ -8,8 +9,6 @@ use Rattle.base.specs.Outside.{Outside}
 use Rattle.memo.specs.Recall.{recall, Remembers}
 use Rattle.memo.specs.declared.memo.Memo.{Memo}
 use Rattle.graph.specs.Pushes.{Pushes}
-use Rattle.graph.specs.declared.graph.Pushed.{Pushed}
-use Rattle.graph.specs.declared.graph.Pushed.TheVariants as pushed
 use Rattle.term_copy.specs.declared.node.Copying.{Copying}
 use Rattle.base.specs.declared.id.Node.{Node as Id}
 use Rattle.graph.specs.declared.graph.Graph.{Graph as Counts}
@@ -30,12 +29,12 @@ abbrev pub Notes : List ℕ → List ℕ → List ℕ → Copying → Option ℕ
 Notes work work' flex l o x = (j : ℕ) → j < length flex → get_or work' (l.variables + j) 0 ≡ noted o x j (get_or work (l.variables + j) 0)
 
 -- a node more in the graph
-abbrev pub Grows : List ℕ → List ℕ → List ℕ → List ℕ → Copying → Counts → Vertex → Pushed → Type 0
+abbrev pub Grows : List ℕ → List ℕ → List ℕ → List ℕ → Copying → Counts → Vertex → Optional (Id × Counts) → Type 0
 Grows work work' cells cells' l g v r = Pushes cells cells' (rows_in work cells l) (rows_in work' cells l) g v r × Outside l.graph (rows_at cells l) work work'
 
 -- a node more in the graph, the copy of the variable that o names or of none
 abbrev pub Makes : List ℕ → List ℕ → List ℕ → List ℕ → List ℕ → Copying → Counts → Vertex → Option ℕ → Id → Counts → Type 0
-Makes work work' cells cells' flex l g v o x g' = Pushes cells cells' (rows_in work cells l) (rows_in work' cells l) g v (pushed.At x g') × Outside l.variables (rows_at cells l) work work' × Notes work work' flex l o x.0
+Makes work work' cells cells' flex l g v o x g' = Pushes cells cells' (rows_in work cells l) (rows_in work' cells l) g v (Some (x, g')) × Outside l.variables (rows_at cells l) work work' × Notes work work' flex l o x.0
 
 -- what a node with a key is copied to
 abbrev pub vertex_for : List ℕ → Copying → Memo → List ℕ → List ℕ → Vertex
@@ -65,15 +64,15 @@ pub record Stays (work work' cells : List ℕ) (l : Copying) : Type 0 where
 -- a pattern with a key was copied to node x
 abbrev pub CopiedTo : List ℕ → List ℕ → List ℕ → List ℕ → List ℕ → Copying → Memo → Counts → ℕ → List ℕ → Id → Counts → Type 0
 CopiedTo work work' cells cells' flex l memo g p key x g' =
-    Pushes cells cells' (rows_in work cells l) (rows_in work' cells l) g (vertex_for work l memo flex key) (pushed.At x g')
+    Pushes cells cells' (rows_in work cells l) (rows_in work' cells l) g (vertex_for work l memo flex key) (Some (x, g'))
     × Stays work work' cells l × Notes work work' flex l (number_for key) x.0
     × Remembers (table_in work' l) memo × (recall (table_in work' l) memo ≡ set (recall (table_in work l) memo) p (some x.0))
 
 -- or there was no room for its copy
 abbrev pub NoRoom : List ℕ → List ℕ → List ℕ → List ℕ → List ℕ → Copying → Memo → Counts → List ℕ → Type 0
-NoRoom work work' cells cells' flex l memo g key = Pushes cells cells' (rows_in work cells l) (rows_in work' cells l) g (vertex_for work l memo flex key) pushed.Short × Stays work work' cells l
+NoRoom work work' cells cells' flex l memo g key = Pushes cells cells' (rows_in work cells l) (rows_in work' cells l) g (vertex_for work l memo flex key) None × Stays work work' cells l
 
 -- what `copy_node` answers
-abbrev pub CopiesNode : List ℕ → List ℕ → List ℕ → List ℕ → List ℕ → Copying → Memo → Counts → ℕ → List ℕ → Pushed → Type 0
-CopiesNode work work' cells cells' flex l memo g p key (pushed.At x g') = CopiedTo work work' cells cells' flex l memo g p key x g'
-CopiesNode work work' cells cells' flex l memo g p key pushed.Short = NoRoom work work' cells cells' flex l memo g key
+abbrev pub CopiesNode : List ℕ → List ℕ → List ℕ → List ℕ → List ℕ → Copying → Memo → Counts → ℕ → List ℕ → Optional (Id × Counts) → Type 0
+CopiesNode work work' cells cells' flex l memo g p key (Some (x, g')) = CopiedTo work work' cells cells' flex l memo g p key x g'
+CopiesNode work work' cells cells' flex l memo g p key None = NoRoom work work' cells cells' flex l memo g key

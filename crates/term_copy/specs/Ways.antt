@@ -1,4 +1,5 @@
 -- What each way of a turn answers, whatever walk is under way.
+use Rattle.std.specs.Prelude.{Option, Some, None}
 use Rattle.std.specs.Prelude.{◌≡◌, refl, Bool, true, false, ℕ, suc, ◌+◌, ◌*◌, ◌≤◌, ◌<◌, eqb, get_or}
 use Rattle.std.proofs.Common.{sym, ◌∙◌, subst, add-one, arith, ltb-true, ltb-false}
 use Rattle.std.proofs.Math.Path.{ap}
@@ -22,10 +23,7 @@ use Rattle.memo.specs.Recall.{recall, Remembers}
 use Rattle.store.specs.declared.nodes.Store.{Store}
 use Rattle.memo.specs.declared.memo.Memo.{Memo}
 use Rattle.term_copy.specs.declared.node.Copying.{Copying}
-use Rattle.term_copy.specs.declared.copy.Turn.TheVariants as turns
 use Rattle.graph.specs.Links.{Holds}
-use Rattle.graph.specs.declared.graph.Pushed.{Pushed}
-use Rattle.graph.specs.declared.graph.Pushed.TheVariants as pushed
 use Rattle.term_copy.specs.Places.{table_in, rows_at, rows_in, Apart, value_in, Beside}
 use Rattle.graph.specs.Cells.{marks_in}
 use Rattle.term_copy.specs.Held.{frames_in, Ready}
@@ -77,7 +75,7 @@ module _ (work words cells₀ flex : List ℕ) (l : Copying) (st : Store) (memo 
   ready_key R key K = subst (λ (xs : List ℕ). Key work l memo xs) (sym K) (turn-key work words cells₀ flex l st memo g top R.0 R.1 R.2)
 
   -- its frame is dropped
-  pub advance_passed : (b : Bool) → b ≡ (eqb taken 0 and is_some (value_in work l memo p)) → b ≡ true → Advances work work words cells₀ cells₀ flex l st memo g top (turns.On top g)
+  pub advance_passed : (b : Bool) → b ≡ (eqb taken 0 and is_some (value_in work l memo p)) → b ≡ true → Advances work work words cells₀ cells₀ flex l st memo g top (Some (top, g))
   advance_passed b e t = (
     λ P c G. going_on work words cells₀ flex l st memo g top P c G work cells₀ g top (frames_in work l.walk top) c (dropped work words cells₀ flex l st memo g top P c G b e t) G.holds refl,
     outside_none l.copied (rows_at cells₀ l) work,
@@ -125,7 +123,7 @@ module _ (work words cells₀ flex : List ℕ) (l : Copying) (st : Store) (memo 
       next_is = ap (λ (xs : List ℕ). get_or xs (taken + 1) 0) K ∙ ap (λ (i : ℕ). get_or (key_of n) i 0) (add-one taken) ∙ ap (λ (xs : List ℕ). get_or xs taken 0) (sym (below-applied n no_variable))
 
       -- it gets a frame
-      advance_entering : Advances work (entering work l.walk top (get_or key (taken + 1) 0) taken) words cells₀ cells₀ flex l st memo g top (turns.On (top + 2) g)
+      advance_entering : Advances work (entering work l.walk top (get_or key (taken + 1) 0) taken) words cells₀ cells₀ flex l st memo g top (Some ((top + 2), g))
       advance_entering =
           let q = get_or key (taken + 1) 0 in
           let O = entering_outside work l.walk top q taken l.variables enter_room in
@@ -155,8 +153,8 @@ module _ (work words cells₀ flex : List ℕ) (l : Copying) (st : Store) (memo 
         ready_deeper = record { inside = enter_inside some_left; few = taken_few some_left; word = taken-key some_left }
 
         -- that is a turn
-        pub advance_entered : (work₁ : List ℕ) → work₁ ≡ deepened work at key → Advances work work₁ words cells₀ cells₀ flex l st memo g top (turns.On (top + 2) g)
-        advance_entered work₁ e₁ = subst (λ (xs : List ℕ). Advances work xs words cells₀ cells₀ flex l st memo g top (turns.On (top + 2) g)) (sym e₁) (advance_entering some_left)
+        pub advance_entered : (work₁ : List ℕ) → work₁ ≡ deepened work at key → Advances work work₁ words cells₀ cells₀ flex l st memo g top (Some ((top + 2), g))
+        advance_entered work₁ e₁ = subst (λ (xs : List ℕ). Advances work xs words cells₀ cells₀ flex l st memo g top (Some ((top + 2), g))) (sym e₁) (advance_entering some_left)
 
       -- no argument is left
       module _ (u : d ≡ false) where
@@ -169,15 +167,15 @@ module _ (work words cells₀ flex : List ℕ) (l : Copying) (st : Store) (memo 
         ready_ripe = let H = R.2.holds in (H.apart, (R.1.graph, H.shows), ready_key R key K, H.remembers, ready_known R)
 
         -- its pattern's copy is made: that is a turn, too
-        module _ (work' cells' : List ℕ) (long : length cells' ≡ length cells₀) (r : Pushed) (C : CopiesNode work work' cells₀ cells' flex l memo g p key r) where
+        module _ (work' cells' : List ℕ) (long : length cells' ≡ length cells₀) (r : Option (Id × Counts)) (C : CopiesNode work work' cells₀ cells' flex l memo g p key r) where
           -- what was answered
-          made : (q : Pushed) → r ≡ q → CopiesNode work work' cells₀ cells' flex l memo g p (key_of n) q
-          made q h = subst (λ (xs : List ℕ). CopiesNode work work' cells₀ cells' flex l memo g p xs q) K (subst (λ (o : Pushed). CopiesNode work work' cells₀ cells' flex l memo g p key o) h C)
+          made : (q : Option (Id × Counts)) → r ≡ q → CopiesNode work work' cells₀ cells' flex l memo g p (key_of n) q
+          made q h = subst (λ (xs : List ℕ). CopiesNode work work' cells₀ cells' flex l memo g p xs q) K (subst (λ (o : Option (Id × Counts)). CopiesNode work work' cells₀ cells' flex l memo g p key o) h C)
 
           -- there was room
-          pub advance_copied : (x : Id) (g' : Counts) → r ≡ pushed.At x g' → Advances work work' words cells₀ cells' flex l st memo g top (turns.On top g')
+          pub advance_copied : (x : Id) (g' : Counts) → r ≡ Some (x, g') → Advances work work' words cells₀ cells' flex l st memo g top (Some (top, g'))
           advance_copied x g' h =
-              let F = made (pushed.At x g') h in
+              let F = made (Some (x, g')) h in
               let room = turn-room work words cells₀ flex l st memo g top R.0 R.1 R.2 in (
                 λ P c G. going_on work words cells₀ flex l st memo g top P c G work' cells' g' top (frames_in work l.walk top) (copy_at s (marks_in flex) p c)
                     (finished work words cells₀ flex l st memo g top P c G b e f none_left)
@@ -187,9 +185,9 @@ module _ (work words cells₀ flex : List ℕ) (l : Copying) (st : Store) (memo 
               )
 
           -- there was none
-          pub advance_short : r ≡ pushed.Short → Advances work work' words cells₀ cells' flex l st memo g top turns.Short
+          pub advance_short : r ≡ None → Advances work work' words cells₀ cells' flex l st memo g top None
           advance_short h =
-              let F = made pushed.Short h in (
+              let F = made None h in (
                 λ P c G.
                     let w = ap (λ (v : Walking Copy). cells v.state.graph) (finished work words cells₀ flex l st memo g top P c G b e f none_left) in
                     omega (arith, w, short_more work words cells₀ flex l st memo g c G.holds p work' cells' F),

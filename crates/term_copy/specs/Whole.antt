@@ -1,4 +1,5 @@
 -- The whole of a copy: what is held at its beginning, and what is answered at its end.
+use Rattle.std.specs.Prelude.{Option, Some, None}
 use Rattle.std.specs.Prelude.{◌≡◌, refl, ℕ, suc, ◌+◌, ◌*◌, ◌-◌, ◌≤◌, ◌<◌}
 use Rattle.std.proofs.Common.{sym, ap, ◌∙◌}
 use Rattle.std.proofs.Math.Path.{ap₂, subst}
@@ -24,9 +25,6 @@ use Rattle.memo.specs.declared.memo.Memo.{Memo}
 use Rattle.graph.specs.Cells.{rest_at, start_in, Shows, rows_end, nodes_few, graph_kept, marks_in}
 use Rattle.theory.specs.Unification.Inner.{Inner}
 use Rattle.term_copy.specs.declared.node.Copying.{Copying}
-use Rattle.term_copy.specs.declared.copy.Turn.{Turn}
-use Rattle.term_copy.specs.declared.copy.Turn.TheVariants as turns
-use Rattle.term_copy.specs.declared.copy.Copied.TheVariants as answers
 use Rattle.term_copy.specs.Held.{index_in, graph_in, Given, Holding, Going, Ready, frames_in, Copies}
 use Rattle.term_copy.specs.Places.{table_in, rows_at, rows_in, copy_in, Apart, Beside}
 use Rattle.term_copy.specs.Frames.{left_of, Runs, Begins}
@@ -129,15 +127,15 @@ module _ (work words cells₀ flex : List ℕ) (l : Copying) (st : Store) (memo 
         record { long = N.long ∙ O.long; ahead = λ i a. N.ahead i a ∙ O.ahead i a; behind = λ i a. N.behind i a ∙ O.behind i (omega (arith, Y.laid.marks)) }
 
     -- there was no room
-    pub copies_short : (r : Turn) → r ≡ turns.Short → Runs work₁ work₂ words cells₀ cells₂ flex l st fresh g 1 r → Copies work work₂ words cells₀ cells₂ flex l st g p answers.Short
+    pub copies_short : (r : Option (ℕ × Counts)) → r ≡ None → Runs work₁ work₂ words cells₀ cells₂ flex l st fresh g 1 r → Copies work work₂ words cells₀ cells₂ flex l st g p None
     copies_short r e R₀ =
-        let R = subst (λ (o : Turn). Runs work₁ work₂ words cells₀ cells₂ flex l st fresh g 1 o) e R₀ in
+        let R = subst (λ (o : Option (ℕ × Counts)). Runs work₁ work₂ words cells₀ cells₂ flex l st fresh g 1 o) e R₀ in
         (λ h S I. omega (arith, R.0 Y.patterns (no_copy h) (first_going h S I), ap (λ (d : Copy). cells d.graph) (whole h S I)), beside_both R.1)
 
-    module _ (k : ℕ) (g' : Counts) (r : Turn) (e : r ≡ turns.On k g') (R₀ : Runs work₁ work₂ words cells₀ cells₂ flex l st fresh g 1 r) where
+    module _ (k : ℕ) (g' : Counts) (r : Option (ℕ × Counts)) (e : r ≡ Some (k, g')) (R₀ : Runs work₁ work₂ words cells₀ cells₂ flex l st fresh g 1 r) where
       -- the run's answer
-      R : Runs work₁ work₂ words cells₀ cells₂ flex l st fresh g 1 (turns.On k g')
-      R = subst (λ (o : Turn). Runs work₁ work₂ words cells₀ cells₂ flex l st fresh g 1 o) e R₀
+      R : Runs work₁ work₂ words cells₀ cells₂ flex l st fresh g 1 (Some (k, g'))
+      R = subst (λ (o : Option (ℕ × Counts)). Runs work₁ work₂ words cells₀ cells₂ flex l st fresh g 1 o) e R₀
 
       -- the definition's copy is held
       held : (h : Graph) → Shows cells₀ (graph_in work l) g h → Inner h → Holding work₂ words cells₂ flex l st fresh g' (copy (nodes words st) (marks_in flex) h p)
@@ -160,7 +158,7 @@ module _ (work words cells₀ flex : List ℕ) (l : Copying) (st : Store) (memo 
       end_known = omega (arith, given, memo_room work₂ words cells₂ flex l st fresh any_held.apart any_held.room any_held.stored)
 
       -- the answer
-      pub copies_at : length cells₂ ≡ length cells₀ → (x : Id) → x.0 ≡ copy_in work₂ l fresh p → Copies work work₂ words cells₀ cells₂ flex l st g p (answers.At x g' fresh)
+      pub copies_at : length cells₂ ≡ length cells₀ → (x : Id) → x.0 ≡ copy_in work₂ l fresh p → Copies work work₂ words cells₀ cells₂ flex l st g p (Some (x, g', fresh))
       copies_at long x f = (
         λ h S I.
             let d = copy (nodes words st) (marks_in flex) h p in

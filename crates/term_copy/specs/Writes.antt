@@ -1,4 +1,5 @@
 -- What is read from the tables, and what is written into them.
+use Rattle.std.specs.Prelude.{Option, Some, None, unwrap_or}
 use Rattle.std.specs.Prelude.{◌≡◌, refl, Bool, true, false, List, [], ◌∷◌, map, ℕ, zero, suc, ◌+◌, ◌-◌, ◌≤◌, ◌<◌, eqb, length, get_or, set, take, drop}
 use Rattle.std.proofs.Common.{sym, ap, ◌∙◌, subst, add-one, arith, eqb-true, eq-eqb, ne_eqb, length-drop, get_or-set_same, get_or-set_other, get_or-drop, take_all}
 use Rattle.std.proofs.Math.Option.{none, some}
@@ -13,22 +14,25 @@ use Rattle.base.specs.Part.{take-copied}
 use Rattle.base.specs.Outside.{Outside, outside_none, outside_set}
 use Rattle.memo.specs.Recall.{known}
 use Rattle.memo.specs.declared.memo.Memo.{Memo}
-use Rattle.memo.specs.declared.memo.Known.{Known}
-use Rattle.memo.specs.declared.memo.Known.TheVariants.{Value, Nothing}
 use Rattle.graph.specs.Cells.{mark_in, marks_in}
 use Rattle.term_copy.specs.declared.node.Copying.{Copying}
 use Rattle.term_copy.specs.Places.{value_in, or_zero, copy_in}
 use Rattle.term_copy.specs.Steps.{mark_at, noted, Notes, number_for}
 
 -- ---- what the memo has
-pub copy-value : (work : List ℕ) (l : Copying) (memo : Memo) (q v : ℕ) (r : Known) → known r ≡ value_in work l memo q → r ≡ Value v → v ≡ copy_in work l memo q
+pub copy-value : (work : List ℕ) (l : Copying) (memo : Memo) (q v : ℕ) (r : Option ℕ) → known r ≡ value_in work l memo q → r ≡ Some v → v ≡ copy_in work l memo q
 unfolding copy_in
 copy-value work l memo q v r e f = let g : value_in work l memo q ≡ some v = sym e ∙ ap known f in ap or_zero (sym g)
 
 -- nothing is 0
-pub copy-none : (work : List ℕ) (l : Copying) (memo : Memo) (q : ℕ) (r : Known) → known r ≡ value_in work l memo q → r ≡ Nothing → 0 ≡ copy_in work l memo q
+pub copy-none : (work : List ℕ) (l : Copying) (memo : Memo) (q : ℕ) (r : Option ℕ) → known r ≡ value_in work l memo q → r ≡ None → 0 ≡ copy_in work l memo q
 unfolding copy_in
 copy-none work l memo q r e f = let g : value_in work l memo q ≡ none = sym e ∙ ap known f in ap or_zero (sym g)
+
+-- one or the other
+pub copy-either : (work : List ℕ) (l : Copying) (memo : Memo) (q : ℕ) (r : Option ℕ) → known r ≡ value_in work l memo q → unwrap_or r 0 ≡ copy_in work l memo q
+copy-either work l memo q (Some v) e = copy-value work l memo q v (Some v) e refl
+copy-either work l memo q None e = copy-none work l memo q None e refl
 
 -- ---- arguments gathered
 pub gather_more : (f : ℕ → ℕ) (key args : List ℕ) (i v : ℕ) → i + 1 < length key → i < length args → v ≡ f (get_or key (i + 1) 0) → take i args ≡ take i (map f (drop 1 key)) → take (i + 1) (set args i v) ≡ take (i + 1) (map f (drop 1 key))

@@ -11,24 +11,9 @@ ghost use Rattle.term_copy.specs.Frames.{Deeper, is_left, deepened, Advances, Ru
 use crate::node::{Copying, copy_node, copy_of};
 use base::id::{Node, Pattern};
 use base::stack::Frame;
-use buffer::zero::zero_words;
-use graph::graph::{Graph, Pushed};
-use memo::memo::{Known, Memo};
+use graph::graph::Graph;
+use memo::memo::Memo;
 use store::nodes::Store;
-
-// The node that the pattern was copied to, the graph with it and the memo as it is then; or that the cells have no room.
-#[derive(Clone, Copy)]
-pub enum Copied {
-    At(Node, Graph, Memo),
-    Short,
-}
-
-// So many frames stand on the stack, and the graph as it is then; or the cells have no room.
-#[derive(Clone, Copy)]
-pub enum Turn {
-    On(usize, Graph),
-    Short,
-}
 
 // Whether the frame at `at` is new and its pattern was copied before.
 fn passes(work: &[u32], l: Copying, memo: Memo, at: usize) -> bool
@@ -39,12 +24,7 @@ fn passes(work: &[u32], l: Copying, memo: Memo, at: usize) -> bool
         return false;
     }
     let p = work[at];
-    let from = l.copied;
-    let to = l.walk;
-    match memo.get(&work[from..to], p as usize) {
-        Known::Value(_) => true,
-        Known::Nothing => false,
-    }
+    memo.get(&work[l.copied..l.walk], p as usize).is_some()
 }
 
 // Whether an argument of the node with a key is left to the frame at `at`.
@@ -70,7 +50,7 @@ fn deepen(work: &mut [u32], at: usize, key: &[u32])
 }
 
 // One turn on the frame above `top` others: it is dropped if its pattern was copied; or its next argument gets a frame; or its pattern
-// is copied.
+// is copied. How many frames there are then, and the graph; none where the cells have no room.
 fn advance(
     work: &mut [u32],
     words: &[u32],
@@ -81,29 +61,25 @@ fn advance(
     g: Graph,
     flex: &[u32],
     top: usize,
-) -> Turn
+) -> Option<(usize, Graph)>
     requires { Ready work.old words.now cells.old flex.now l st memo g (suc top) }
     ensures { Advances work.old work.new words.now cells.old cells.new flex.now l st memo g top result }
 {
     let at = l.walk + Frame::WORDS * top;
     if passes(work, l, memo, at) {
-        return Turn::On(top, g);
+        return Some((top, g));
     }
     let p = Pattern(work[at]);
-    let from = l.index;
-    let to = l.copied;
-    let key = st.node(&work[from..to], words, p);
+    let key = st.node(&work[l.index..l.copied], words, p);
     if is_left(work, at, key) {
         deepen(work, at, key);
-        return Turn::On(top + 2, g);
+        return Some((top + 2, g));
     }
-    match copy_node(work, cells, l, memo, g, flex, p, key) {
-        Pushed::At(_, h) => Turn::On(top, h),
-        Pushed::Short => Turn::Short,
-    }
+    let (_, h) = copy_node(work, cells, l, memo, g, flex, p, key)?;
+    Some((top, h))
 }
 
-// The turns from one frame on until none is left.
+// The turns from one frame on until none is left; none where the cells have no room.
 fn run(
     work: &mut [u32],
     words: &[u32],
@@ -113,24 +89,16 @@ fn run(
     memo: Memo,
     start: Graph,
     flex: &[u32],
-) -> Turn
+) -> Option<(usize, Graph)>
     requires { Ready work.old words.now cells.old flex.now l st memo start 1 }
     ensures { Runs work.old work.new words.now cells.old cells.new flex.now l st memo start 1 result }
 {
     let mut g = start;
     let mut top: usize = 1;
     while 0 < top {
-        match advance(work, words, cells, l, st, memo, g, flex, top - 1) {
-            Turn::On(k, h) => {
-                top = k;
-                g = h;
-            }
-            Turn::Short => {
-                return Turn::Short;
-            }
-        }
+        (top, g) = advance(work, words, cells, l, st, memo, g, flex, top - 1)?;
     }
-    Turn::On(0, g)
+    Some((0, g))
 }
 
 // A memo without entries, no variable noted, and a frame for pattern `p`.
@@ -138,18 +106,14 @@ fn begin(work: &mut [u32], l: Copying, memo: Memo, flex: &[u32], p: Pattern) -> 
     requires { Remembers (table_in work.old l) memo × (l.copied ≤ l.walk) × (l.walk + 2 ≤ l.variables) × (l.variables + length flex.now ≤ length work.old) }
     ensures { Begins work.old work.new flex.now l p.0 result }
 {
-    let from = l.copied;
-    let at = l.walk;
-    let fresh = memo.clear(&mut work[from..at]);
-    let first = l.variables;
-    let last = first + flex.len();
-    zero_words(&mut work[first..last]);
-    work[at] = p.0;
-    work[at + Frame::TAKEN] = 0;
+    let fresh = memo.clear(&mut work[l.copied..l.walk]);
+    work[l.variables..l.variables + flex.len()].fill(0);
+    work[l.walk] = p.0;
+    work[l.walk + Frame::TAKEN] = 0;
     fresh
 }
 
-// A fresh copy of pattern `p`, with variables of its own.
+// A fresh copy of pattern `p`, with variables of its own: its node, and the graph and the memo then; none where the cells have no room.
 pub fn copy(
     work: &mut [u32],
     words: &[u32],
@@ -160,13 +124,11 @@ pub fn copy(
     g: Graph,
     flex: &[u32],
     p: Pattern,
-) -> Copied
+) -> Option<(Node, Graph, Memo)>
     requires { Given work.old words.now cells.old flex.now l st memo g × (p.0 < length (nodes words.now st)) }
     ensures { Copies work.old work.new words.now cells.old cells.new flex.now l st g p.0 result }
 {
     let fresh = begin(work, l, memo, flex, p);
-    match run(work, words, cells, l, st, fresh, g, flex) {
-        Turn::On(_, h) => Copied::At(copy_of(work, l, fresh, p), h, fresh),
-        Turn::Short => Copied::Short,
-    }
+    let (_, h) = run(work, words, cells, l, st, fresh, g, flex)?;
+    Some((copy_of(work, l, fresh, p), h, fresh))
 }

@@ -11,9 +11,9 @@ ghost use Rattle.term_copy.specs.Steps.{mark_at, Arguments, Key, Notes, Grows, v
 ghost use Rattle.graph.specs.Places.{pairs_at};
 
 use base::id::{Node, Pattern};
-use graph::graph::{Graph, Pushed};
+use graph::graph::Graph;
 use graph::places::pairs_at;
-use memo::memo::{Known, Memo};
+use memo::memo::Memo;
 
 // Where copying has its tables in work: the store's index; what pattern nodes were copied to, a memo of two words each; the walk's
 // stack, two words for each; a word for each variable of the class, its graph node and one or 0; the graph's table.
@@ -32,12 +32,7 @@ pub fn copy_of(work: &[u32], l: Copying, memo: Memo, q: Pattern) -> Node
     requires { (l.copied ≤ l.walk) × (l.walk ≤ length work.now) × (q.0 < length (recall (table_in work.now l) memo)) }
     ensures { result.0 ≡ copy_in work.now l memo q.0 }
 {
-    let from = l.copied;
-    let to = l.walk;
-    match memo.get(&work[from..to], q.0 as usize) {
-        Known::Value(v) => Node(v),
-        Known::Nothing => Node(0),
-    }
+    Node(memo.get(&work[l.copied..l.walk], q.0 as usize).unwrap_or(0))
 }
 
 // The copies of a key's arguments.
@@ -45,10 +40,8 @@ fn gather(work: &[u32], l: Copying, memo: Memo, key: &[u32], args: &mut [u32])
     requires { (l.copied ≤ l.walk) × (l.walk ≤ length work.now) × Arguments work.now l memo key.now × (length args.old ≡ length key.now - 1) }
     ensures { args.new ≡ map (copy_in work.now l memo) (drop 1 key.now) }
 {
-    let mut i: usize = 0;
-    while i < args.len() {
+    for i in 0..args.len() {
         args[i] = copy_of(work, l, memo, Pattern(key[i + 1])).0;
-        i += 1;
     }
 }
 
@@ -73,12 +66,11 @@ fn note(work: &mut [u32], l: Copying, flex: &[u32], key: &[u32], x: Node)
     }
     let i = key[1] as usize;
     if i < flex.len() {
-        let at = l.variables + i;
-        work[at] = x.0 + 1;
+        work[l.variables + i] = x.0 + 1;
     }
 }
 
-// A fresh variable with the mark of variable `k`.
+// A fresh variable with the mark of variable `k`; none where the cells have no room.
 fn copy_variable(
     work: &mut [u32],
     cells: &mut [u32],
@@ -87,17 +79,16 @@ fn copy_variable(
     flex: &[u32],
     k: u32,
     sort: u32,
-) -> Pushed
+) -> Option<(Node, Graph)>
     requires { (l.graph + pairs_at (length cells.old) ≤ length work.old) × Holds cells.old (rows_in work.old cells.old l) g }
     ensures { Grows work.old work.new cells.old cells.new l g (variable_vertex sort (mark_at flex.now k) (mark_in 0)) result }
 {
     let mark = mark_of(flex, k);
-    let from = l.graph;
-    let to = from + pairs_at(cells);
-    g.var(cells, &mut work[from..to], sort, mark, 0)
+    let end = l.graph + pairs_at(cells);
+    g.var(cells, &mut work[l.graph..end], sort, mark, 0)
 }
 
-// An application over the copies of its arguments.
+// An application over the copies of its arguments; none where the cells have no room.
 fn copy_application(
     work: &mut [u32],
     cells: &mut [u32],
@@ -105,23 +96,22 @@ fn copy_application(
     memo: Memo,
     g: Graph,
     key: &[u32],
-) -> Pushed
+) -> Option<(Node, Graph)>
     requires { (l.copied ≤ l.walk) × (l.walk ≤ l.graph) × (l.graph + pairs_at (length cells.old) ≤ length work.old) × Holds cells.old (rows_in work.old cells.old l) g × Arguments work.old l memo key.now }
     ensures { Grows work.old work.new cells.old cells.new l g (applied (get_or key.now 0 0) (map (copy_in work.old l memo) (drop 1 key.now))) result }
 {
     let n = key.len() - 1;
     if g.lacks_room(cells, n) {
-        return Pushed::Short;
+        return None;
     }
-    let from = l.graph;
-    let to = from + pairs_at(cells);
+    let rows_end = l.graph + pairs_at(cells);
     let first = g.used + 1;
     let end = first + n;
     gather(work, l, memo, key, &mut cells[first..end]);
-    g.push_laid(cells, &mut work[from..to], key[0], end)
+    g.push_laid(cells, &mut work[l.graph..rows_end], key[0], end)
 }
 
-// A copy of the node with a key.
+// A copy of the node with a key; none where the cells have no room.
 fn push_copy(
     work: &mut [u32],
     cells: &mut [u32],
@@ -130,7 +120,7 @@ fn push_copy(
     g: Graph,
     flex: &[u32],
     key: &[u32],
-) -> Pushed
+) -> Option<(Node, Graph)>
     requires { Apart work.old cells.old flex.now l × Holds cells.old (rows_in work.old cells.old l) g × Key work.old l memo key.now }
     ensures { Grows work.old work.new cells.old cells.new l g (vertex_for work.old l memo flex.now key.now) result }
 {
@@ -140,7 +130,7 @@ fn push_copy(
     copy_application(work, cells, l, memo, g, key)
 }
 
-// Pattern `p` with a key is copied, and the memo and the variables' words say so.
+// Pattern `p` with a key is copied, and the memo and the variables' words say so; none where the cells have no room.
 pub fn copy_node(
     work: &mut [u32],
     cells: &mut [u32],
@@ -150,18 +140,12 @@ pub fn copy_node(
     flex: &[u32],
     p: Pattern,
     key: &[u32],
-) -> Pushed
+) -> Option<(Node, Graph)>
     requires { Apart work.old cells.old flex.now l × Holds cells.old (rows_in work.old cells.old l) g × Key work.old l memo key.now × Remembers (table_in work.old l) memo × (p.0 < length (recall (table_in work.old l) memo)) }
     ensures { CopiesNode work.old work.new cells.old cells.new flex.now l memo g p.0 key.now result }
 {
-    match push_copy(work, cells, l, memo, g, flex, key) {
-        Pushed::At(x, h) => {
-            note(work, l, flex, key, x);
-            let from = l.copied;
-            let to = l.walk;
-            memo.insert(&mut work[from..to], p.0 as usize, x.0);
-            Pushed::At(x, h)
-        }
-        Pushed::Short => Pushed::Short,
-    }
+    let (x, h) = push_copy(work, cells, l, memo, g, flex, key)?;
+    note(work, l, flex, key, x);
+    memo.insert(&mut work[l.copied..l.walk], p.0 as usize, x.0);
+    Some((x, h))
 }

@@ -1,4 +1,5 @@
 -- The test from its start to its end: two memos without entries and one pair, then the turns.
+use Rattle.std.specs.Prelude.{Some, None}
 use Rattle.std.specs.Prelude.{◌≡◌, ℕ, suc, ◌+◌, ◌*◌, ◌≤◌, ◌<◌, length, get_or, set}
 use Rattle.std.proofs.Common.{sym, subst, ◌∙◌, arith}
 use Rattle.std.proofs.Math.Path.{ap}
@@ -22,8 +23,6 @@ use Rattle.memo.specs.Lent.{lent, lent-before, lent-behind, Clears, recall-befor
 use Rattle.store.specs.declared.nodes.Store.{Store}
 use Rattle.memo.specs.declared.memo.Memo.{Memo}
 use Rattle.term_instance.specs.declared.tables.Instance.{Instance}
-use Rattle.term_instance.specs.declared.instance.Turn.TheVariants.{Unlike}
-use Rattle.term_instance.specs.declared.instance.Matched.TheVariants.{Yes, No}
 use Rattle.base.specs.Pairs.{pairs_in, pairs_more}
 use Rattle.term_instance.specs.Held.{Given, Kept, Memos, given_reads, given_on, below-words}
 use Rattle.term_instance.specs.Takes.{Left, Ready, TakesPair}
@@ -128,7 +127,7 @@ module _ (bytes work words : List ℕ) (c : Catalog) (l : Instance) (st : Store)
         first_stays = record { outside = outside_none _ _ _; seen-kept = first-kept.seen-kept; values-kept = first-kept.values-kept }
 
         -- all turns were taken
-        pub matches_done : (work' : List ℕ) → Going bytes first work' words c l st fresh bare 0 → Matches bytes work work' words c l st p n (Yes fresh bare)
+        pub matches_done : (work' : List ℕ) → Going bytes first work' words c l st fresh bare 0 → Matches bytes work work' words c l st p n (Some (fresh, bare))
         matches_done work' G = (
           record { outside = outside_then l.pairs l.end work first work' first-kept.outside G.kept.outside; seen-kept = G.kept.seen-kept; values-kept = G.kept.values-kept },
           λ P R g.
@@ -137,7 +136,7 @@ module _ (bytes work words : List ℕ) (c : Catalog) (l : Instance) (st : Store)
         )
 
         -- one differs
-        pub matches_differs : (now' work' : List ℕ) (top : ℕ) → Going bytes first now' words c l st fresh bare (suc top) → TakesPair bytes now' work' words c l st fresh bare top Unlike → Matches bytes work work' words c l st p n No
+        pub matches_differs : (now' work' : List ℕ) (top : ℕ) → Going bytes first now' words c l st fresh bare (suc top) → TakesPair bytes now' work' words c l st fresh bare top None → Matches bytes work work' words c l st p n None
         matches_differs now' work' top G M = (
           outside_then l.pairs l.end work first work' first-kept.outside (outside_then l.pairs l.end first now' work' G.kept.outside M.0.outside),
           λ P R g.

@@ -1,4 +1,5 @@
 -- The turns together: a ground node is an instance of a pattern just where the definition's match has values, and they are those.
+use Rattle.std.specs.Prelude.{Option, Some, None}
 use Rattle.std.specs.Prelude.{◌≡◌, refl, Bool, List, [], ◌∷◌, ℕ, suc, ◌+◌, ◌-◌, ◌<◌, length, get_or}
 use Rattle.std.proofs.Common.{ap, subst, ◌∙◌, arith}
 use Rattle.std.proofs.Math.Option.{none, some}
@@ -21,19 +22,16 @@ use Rattle.store.specs.Stored.{nodes}
 use Rattle.store.specs.declared.nodes.Store.{Store}
 use Rattle.memo.specs.declared.memo.Memo.{Memo}
 use Rattle.term_instance.specs.declared.tables.Instance.{Instance}
-use Rattle.term_instance.specs.declared.instance.Turn.TheVariants.{On}
-use Rattle.term_instance.specs.declared.instance.Matched.{Matched}
-use Rattle.term_instance.specs.declared.instance.Matched.TheVariants.{Yes, No}
 use Rattle.base.specs.Pairs.{pairs_in, length-pairs_in}
 use Rattle.term_instance.specs.Held.{seen_at, value_at, Patterns, Kept, Memos, given_reads, given_on}
 use Rattle.term_instance.specs.Takes.{Left, Ready, left_word, right_word, TakesPair}
 
 -- what the test answers of whatever pack work holds: the values are in the memo, or there are none
-abbrev pub Matches : (bytes work work' words : List ℕ) (c : Catalog) (l : Instance) (st : Store) (p n : ℕ) → Matched → Type 0
-Matches bytes work work' words c l st p n (Yes seen values) =
+abbrev pub Matches : (bytes work work' words : List ℕ) (c : Catalog) (l : Instance) (st : Store) (p n : ℕ) → Option (Memo × Memo) → Type 0
+Matches bytes work work' words c l st p n (Some (seen, values)) =
     Kept l seen values work work'
     × OfHeld bytes work c (λ P. (bs : List Bound) × (matches P (term_of (nodes words st) p) n [] ≡ some bs) × ((k : ℕ) → value_at work' l values k ≡ value_of k bs))
-Matches bytes work work' words c l st p n No = Outside l.pairs l.end work work' × OfHeld bytes work c (λ P. matches P (term_of (nodes words st) p) n [] ≡ none)
+Matches bytes work work' words c l st p n None = Outside l.pairs l.end work work' × OfHeld bytes work c (λ P. matches P (term_of (nodes words st) p) n [] ≡ none)
 
 -- ---- how much is left, by the words
 -- whether a pattern node was seen
@@ -134,7 +132,7 @@ module _ (bytes before work words : List ℕ) (c : Catalog) (l : Instance) (st :
   }
 
   -- a turn more
-  module _ (work' : List ℕ) (more : ℕ) (M : TakesPair bytes work work' words c l st seen values top (On more)) where
+  module _ (work' : List ℕ) (more : ℕ) (M : TakesPair bytes work work' words c l st seen values top (Some more)) where
     -- what is left still gives the whole
     pub going_on : Going bytes before work' words c l st seen values more
     going_on = record {

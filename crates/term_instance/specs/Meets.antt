@@ -1,4 +1,5 @@
 -- An application against a ground node: it was seen with it, or is matched with it.
+use Rattle.std.specs.Prelude.{Option, Some, None}
 use Rattle.std.specs.Prelude.{◌≡◌, false, List, ◌∷◌, ℕ, ◌+◌, ◌≤◌, ◌<◌, length, get_or}
 use Rattle.std.proofs.Common.{sym, ap, subst, ◌∙◌, arith}
 use Rattle.std.proofs.Math.Option.{none, some}
@@ -21,20 +22,18 @@ use Rattle.memo.specs.Lent.{lent, lent-before, lent-behind, Puts, recall-behind}
 use Rattle.store.specs.declared.nodes.Store.{Store}
 use Rattle.memo.specs.declared.memo.Memo.{Memo}
 use Rattle.term_instance.specs.declared.tables.Instance.{Instance}
-use Rattle.term_instance.specs.declared.instance.Turn.{Turn}
-use Rattle.term_instance.specs.declared.instance.Turn.TheVariants.{On, Unlike}
 use Rattle.base.specs.Pairs.{pairs_in, pairs_same}
 use Rattle.term_instance.specs.Held.{seen_at, Given, Kept, Memos, recall-more, outside_same, given-seen, given_reads, given_ground}
 use Rattle.term_instance.specs.Pushes.{args_of, Pushable, Pushes}
 use Rattle.term_instance.specs.Taking.{take-seen, take-other, take-unlike, take-ahead}
 
 -- ---- what a turn on pattern p and ground node n gives, of whatever pack and values are held: what `take_match` does
-abbrev pub Takes : (bytes work work' words : List ℕ) (c : Catalog) (l : Instance) (st : Store) (seen values : Memo) (top p n : ℕ) → Turn → Type 0
-Takes bytes work work' words c l st seen values top p n (On more) =
+abbrev pub Takes : (bytes work work' words : List ℕ) (c : Catalog) (l : Instance) (st : Store) (seen values : Memo) (top p n : ℕ) → Option ℕ → Type 0
+Takes bytes work work' words c l st seen values top p n (Some more) =
     Kept l seen values work work'
     × ((P : Pack) → Reads bytes (records_of work c) P → (ss vs : List Bound) → Memos work l seen values ss vs
     → (ts : List Bound) × (ws : List Bound) × (take_match P (nodes words st) p n (pairs_in l.pairs work top) ss vs ≡ some (matching (pairs_in l.pairs work' more) ts ws)) × Memos work' l seen values ts ws)
-Takes bytes work work' words c l st seen values top p n Unlike =
+Takes bytes work work' words c l st seen values top p n None =
     Kept l seen values work work'
     × ((P : Pack) → Reads bytes (records_of work c) P → (ss vs : List Bound) → Memos work l seen values ss vs → take_match P (nodes words st) p n (pairs_in l.pairs work top) ss vs ≡ none)
 
@@ -62,14 +61,14 @@ module _ (bytes work words : List ℕ) (c : Catalog) (l : Instance) (st : Store)
   seen_placed = let H = Q.given in (omega (arith, H.table), omega (arith, H.order, H.fits), H.seen-kept, given-seen bytes work words c l st seen values H p Q.pattern)
 
   -- it was seen with this node
-  pub meets-same : (m : ℕ) → some m ≡ seen_at work l seen p → m ≡ n → Takes bytes work work words c l st seen values top p n (On top)
+  pub meets-same : (m : ℕ) → some m ≡ seen_at work l seen p → m ≡ n → Takes bytes work work words c l st seen values top p n (Some top)
   meets-same m e q = (
     kept-none bytes work words c l st seen values Q.given,
     λ P R ss vs M. (ss, vs, take-seen P (nodes words st) p n (pairs_in l.pairs work top) ss vs Q.applied m (sym (e ∙ M.seen_are p)) q, M),
   )
 
   -- with another
-  pub meets-other : (m : ℕ) → some m ≡ seen_at work l seen p → (m ≡ n → ⊥) → Takes bytes work work words c l st seen values top p n Unlike
+  pub meets-other : (m : ℕ) → some m ≡ seen_at work l seen p → (m ≡ n → ⊥) → Takes bytes work work words c l st seen values top p n None
   meets-other m e d = (
     kept-none bytes work words c l st seen values Q.given,
     λ P R ss vs M. take-other P (nodes words st) p n (pairs_in l.pairs work top) ss vs Q.applied m (sym (e ∙ M.seen_are p)) d,
@@ -89,7 +88,7 @@ module _ (bytes work words : List ℕ) (c : Catalog) (l : Instance) (st : Store)
   not_seen ss vs M = sym (M.seen_are p) ∙ B.bare
 
   -- the ground node has another head
-  pub descends_unlike : (d : ℕ) → OfPack bytes work c (λ P. (node_of P n).head) d → (d ≡ head → ⊥) → Takes bytes work work words c l st seen values top p n Unlike
+  pub descends_unlike : (d : ℕ) → OfPack bytes work c (λ P. (node_of P n).head) d → (d ≡ head → ⊥) → Takes bytes work work words c l st seen values top p n None
   descends_unlike d D x = (
     kept-none bytes work words c l st seen values Q.given,
     λ P R ss vs M. take-unlike P (nodes words st) p n (pairs_in l.pairs work top) ss vs Q.applied (not_seen ss vs M) (λ e. x (D P R ∙ sym (Q.head_is ∙ e))),
@@ -101,7 +100,7 @@ module _ (bytes work words : List ℕ) (c : Catalog) (l : Instance) (st : Store)
     heads P R = sym Q.head_is ∙ sym same ∙ D P R
 
     -- it has more arguments, or fewer
-    pub descends_longer : (m ≡ k → ⊥) → Takes bytes work work words c l st seen values top p n Unlike
+    pub descends_longer : (m ≡ k → ⊥) → Takes bytes work work words c l st seen values top p n None
     descends_longer x = (
       kept-none bytes work words c l st seen values Q.given,
       λ P R ss vs M. take-ahead P (nodes words st) p n (pairs_in l.pairs work top) ss vs Q.applied (not_seen ss vs M) (heads P R) none (ahead-unlike (args_of words st p) (node_of P n).args (pairs_in l.pairs work top) (λ e. x (N P R ∙ sym (K ∙ e)))),
@@ -173,7 +172,7 @@ module _ (bytes work words : List ℕ) (c : Catalog) (l : Instance) (st : Store)
             }
 
         -- its arguments were put there
-        pub descends_on : Takes bytes work work' words c l st seen values top p n (On on)
+        pub descends_on : Takes bytes work work' words c l st seen values top p n (Some on)
         descends_on = (
           descends_kept,
           λ P R ss vs M. (

@@ -1,4 +1,5 @@
 -- One turn: the pair behind the others is taken.
+use Rattle.std.specs.Prelude.{Option as Optional, Some, None}
 use Rattle.std.specs.Prelude.{◌≡◌, Bool, true, ℕ, suc, ◌+◌, ◌*◌, ◌≤◌, ◌<◌, get_or}
 use Rattle.std.proofs.Common.{sym, ◌∙◌, arith}
 use Rattle.std.proofs.Math.Path.{ap}
@@ -26,8 +27,6 @@ use Rattle.store.specs.declared.nodes.Store.{Store}
 use Rattle.memo.specs.declared.memo.Memo.{Memo}
 use Rattle.memo.specs.Lent.{lent-before, recall-before}
 use Rattle.term_instance.specs.declared.tables.Instance.{Instance}
-use Rattle.term_instance.specs.declared.instance.Turn.{Turn}
-use Rattle.term_instance.specs.declared.instance.Turn.TheVariants.{On, Unlike}
 use Rattle.base.specs.Pairs.{pairs_in, length-pairs_in, pairs_same}
 use Rattle.term_instance.specs.Held.{Given, Kept, Memos, given-value}
 use Rattle.term_instance.specs.Binds.{Bindable, Gives, Binds}
@@ -60,7 +59,7 @@ abbrev pub right_word : List ℕ → Instance → ℕ → ℕ
 right_word work l top = get_or work (l.pairs + 2 * top + 1) 0
 
 -- a turn with them
-abbrev pub TakesPair : (bytes work work' words : List ℕ) (c : Catalog) (l : Instance) (st : Store) (seen values : Memo) (top : ℕ) → Turn → Type 0
+abbrev pub TakesPair : (bytes work work' words : List ℕ) (c : Catalog) (l : Instance) (st : Store) (seen values : Memo) (top : ℕ) → Optional ℕ → Type 0
 TakesPair bytes work work' words c l st seen values top t = Takes bytes work work' words c l st seen values top (left_word work l top) (right_word work l top) t
 
 module _ (bytes work words : List ℕ) (c : Catalog) (l : Instance) (st : Store) (seen values : Memo) (top : ℕ) (Q : Ready bytes work words c l st seen values top) where
@@ -150,7 +149,7 @@ module _ (bytes work words : List ℕ) (c : Catalog) (l : Instance) (st : Store)
             ∙ ap (λ (i : ℕ). elim (bound i n vs (value_of i vs)) [ none ↦ none | some ws ↦ some (matching w ss ws) ]) (sym K)
 
         -- it has its value
-        pub takes-bound : r ≡ true → TakesPair bytes work work' words c l st seen values top (On top)
+        pub takes-bound : r ≡ true → TakesPair bytes work work' words c l st seen values top (Some top)
         takes-bound e = (
           bound-kept,
           λ P R ss vs M.
@@ -169,7 +168,7 @@ module _ (bytes work words : List ℕ) (c : Catalog) (l : Instance) (st : Store)
         )
 
         -- it has another
-        pub takes_unbound : r ≡ false → TakesPair bytes work work' words c l st seen values top Unlike
+        pub takes_unbound : r ≡ false → TakesPair bytes work work' words c l st seen values top None
         takes_unbound e = (
           bound-kept,
           λ P R ss vs M.

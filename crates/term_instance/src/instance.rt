@@ -11,25 +11,11 @@ ghost use Rattle.term_instance.specs.Matches.{Matches};
 use crate::tables::{Instance, Test, put_pair};
 use base::id::{Ground, Pattern};
 use base::stack::Frame;
-use memo::memo::{Known, Memo};
+use memo::memo::Memo;
 use memo::part::{clear, get, put};
 use pack_read::node::{node_argument, node_arity, node_head};
 use pack_tables::catalog::Catalog;
 use store::nodes::Store;
-
-// The node is an instance, with the two memos as they are then; or it is none.
-#[derive(Clone, Copy)]
-pub enum Matched {
-    Yes(Memo, Memo),
-    No,
-}
-
-// So many pairs are left to be taken, or something differs.
-#[derive(Clone, Copy)]
-enum Turn {
-    On(usize),
-    Unlike,
-}
 
 // The `k` arguments of pattern `p` and of ground node `n` side by side are put behind `top` other pairs, the first ones on top; behind
 // them there are so many pairs.
@@ -48,13 +34,9 @@ fn push_arguments(
     requires { Pushable pack.now work.old words.now c l st top p.0 n.0 k }
     ensures { Pushes pack.now work.old work.new words.now c l st top p.0 n.0 result }
 {
-    let a = l.index;
-    let e = l.pairs;
     let mut on = top;
-    let mut i = k;
-    while 0 < i {
-        i -= 1;
-        let x = st.argument(&work[a..e], words, p, i);
+    for i in (0..k).rev() {
+        let x = st.argument(&work[l.index..l.pairs], words, p, i);
         let m = node_argument(pack, work, c, n, i);
         put_pair(work, l, on, Pattern(x), m);
         on += 1;
@@ -67,18 +49,17 @@ fn bind(work: &mut [u32], l: Instance, values: Memo, k: u32, n: Ground) -> bool
     requires { Bindable work.old l values k }
     ensures { Binds work.old work.new l values k n.0 result }
 {
-    let from = l.values;
-    let to = l.end;
-    match get(work, from, to, values, k as usize) {
-        Known::Value(m) => m == n.0,
-        Known::Nothing => {
-            put(work, from, to, values, k as usize, n.0);
+    match get(work, l.values, l.end, values, k as usize) {
+        Some(m) => m == n.0,
+        None => {
+            put(work, l.values, l.end, values, k as usize, n.0);
             true
         }
     }
 }
 
-// Application `p`, which was not seen, is matched with `n`: the heads are the same, and the arguments are put ahead of the rest.
+// Application `p`, which was not seen, is matched with `n`: the heads are the same, and the arguments are put ahead of the rest; none if
+// the heads differ.
 fn descend(
     pack: &[u8],
     work: &mut [u32],
@@ -88,28 +69,23 @@ fn descend(
     p: Pattern,
     n: Ground,
     head: u32,
-) -> Turn
+) -> Option<usize>
     requires { BareAt pack.now work.old words.now s top p.0 n.0 head }
     ensures { TakesAt pack.now work.old work.new words.now s top p.0 n.0 result }
 {
     if node_head(pack, work, s.catalog, n) != head {
-        return Turn::Unlike;
+        return None;
     }
-    let a = s.tables.index;
-    let e = s.tables.pairs;
-    let k = s.store.arity(&work[a..e], words, p);
+    let l = s.tables;
+    let k = s.store.arity(&work[l.index..l.pairs], words, p);
     if node_arity(pack, work, s.catalog, n) != k {
-        return Turn::Unlike;
+        return None;
     }
-    let from = s.tables.seen;
-    let to = s.tables.values;
-    put(work, from, to, s.seen, p.0 as usize, n.0);
-    Turn::On(push_arguments(
-        pack, work, words, s.catalog, s.tables, s.store, top, p, n, k,
-    ))
+    put(work, l.seen, l.values, s.seen, p.0 as usize, n.0);
+    Some(push_arguments(pack, work, words, s.catalog, l, s.store, top, p, n, k))
 }
 
-// Application `p` was seen with `n`, or is matched with it.
+// Application `p` was seen with `n`, or is matched with it; none if they differ.
 fn meet(
     pack: &[u8],
     work: &mut [u32],
@@ -119,47 +95,41 @@ fn meet(
     p: Pattern,
     n: Ground,
     head: u32,
-) -> Turn
+) -> Option<usize>
     requires { AppliedAt pack.now work.old words.now s top p.0 n.0 head }
     ensures { TakesAt pack.now work.old work.new words.now s top p.0 n.0 result }
 {
-    let from = s.tables.seen;
-    let to = s.tables.values;
-    match get(work, from, to, s.seen, p.0 as usize) {
-        Known::Value(m) => {
-            if m == n.0 {
-                return Turn::On(top);
-            }
-            return Turn::Unlike;
-        }
-        Known::Nothing => {
-            return descend(pack, work, words, s, top, p, n, head);
-        }
+    let l = s.tables;
+    let Some(m) = get(work, l.seen, l.values, s.seen, p.0 as usize) else {
+        return descend(pack, work, words, s, top, p, n, head);
+    };
+    if m != n.0 {
+        return None;
     }
+    Some(top)
 }
 
-// The pair behind `top` others is taken.
-fn take_pair(pack: &[u8], work: &mut [u32], words: &[u32], s: Test, top: usize) -> Turn
+// The pair behind `top` others is taken; none if its two differ.
+fn take_pair(pack: &[u8], work: &mut [u32], words: &[u32], s: Test, top: usize) -> Option<usize>
     requires { ReadyAt pack.now work.old words.now s top }
     ensures { TakesPairAt pack.now work.old work.new words.now s top result }
 {
-    let at = s.tables.pairs + Frame::WORDS * top;
+    let l = s.tables;
+    let at = l.pairs + Frame::WORDS * top;
     let p = Pattern(work[at]);
     let n = Ground(work[at + Frame::SECOND]);
-    let a = s.tables.index;
-    let e = s.tables.pairs;
-    let head = s.store.head(&work[a..e], words, p);
+    let head = s.store.head(&work[l.index..l.pairs], words, p);
     if head == Pattern::VAR {
-        let k = s.store.argument(&work[a..e], words, p, 0);
-        if bind(work, s.tables, s.values, k, n) {
-            return Turn::On(top);
+        let k = s.store.argument(&work[l.index..l.pairs], words, p, 0);
+        if bind(work, l, s.values, k, n) {
+            return Some(top);
         }
-        return Turn::Unlike;
+        return None;
     }
     meet(pack, work, words, s, top, p, n, head)
 }
 
-// Whether ground node `n` is an instance of pattern `p`, and the values of its variables.
+// The memos with which ground node `n` is an instance of pattern `p`, the values of its variables among them; none if it is no instance.
 pub fn instance(
     pack: &[u8],
     work: &mut [u32],
@@ -171,15 +141,12 @@ pub fn instance(
     values: Memo,
     p: Pattern,
     n: Ground,
-) -> Matched
+) -> Option<(Memo, Memo)>
     requires { Given pack.now work.old words.now c l st seen values × (p.0 < length (nodes words.now st)) × (n.0 < length (records_of work.old c 3)) }
     ensures { Matches pack.now work.old work.new words.now c l st p.0 n.0 result }
 {
-    let a = l.seen;
-    let b = l.values;
-    let e = l.end;
-    let fresh = clear(work, a, b, seen);
-    let bare = clear(work, b, e, values);
+    let fresh = clear(work, l.seen, l.values, seen);
+    let bare = clear(work, l.values, l.end, values);
     put_pair(work, l, 0, p, n);
     let s = Test {
         catalog: c,
@@ -190,14 +157,7 @@ pub fn instance(
     };
     let mut top: usize = 1;
     while 0 < top {
-        match take_pair(pack, work, words, s, top - 1) {
-            Turn::On(more) => {
-                top = more;
-            }
-            Turn::Unlike => {
-                return Matched::No;
-            }
-        }
+        top = take_pair(pack, work, words, s, top - 1)?;
     }
-    Matched::Yes(fresh, bare)
+    Some((fresh, bare))
 }

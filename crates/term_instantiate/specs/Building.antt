@@ -1,4 +1,5 @@
 -- What stands on the stack and in the graph while a rule's term is put there, word by word from the last one on.
+use Rattle.std.specs.Prelude.{Option, Some, None}
 use Rattle.std.specs.Prelude.{◌≡◌, List, ℕ, suc, ◌+◌, ◌-◌, ◌≤◌, ◌<◌, length, get_or, drop}
 use Rattle.std.proofs.Common.{arith}
 use Rattle.definition.specs.Pack.{Term, nil, cons, Pack, rule_of}
@@ -14,14 +15,11 @@ use Rattle.pack_tables.specs.declared.catalog.Catalog.{Catalog}
 use Rattle.pack_read.specs.Reads.{Reads, rule_words}
 use Rattle.pack_read.specs.Held.{Proper, Held}
 use Rattle.graph.specs.declared.graph.Graph.{Graph as Counts}
-use Rattle.graph.specs.declared.graph.Pushed.{Pushed}
-use Rattle.graph.specs.declared.graph.Pushed.TheVariants.{At, Short}
 use Rattle.graph.specs.Cells.{rows_end, Shows}
 use Rattle.theory.specs.Unification.Inner.{Inner}
 use Rattle.term_instantiate.specs.declared.terms.Place.{Place}
-use Rattle.term_instantiate.specs.declared.terms.Taken.{Taken}
-use Rattle.term_instantiate.specs.declared.terms.Taken.TheVariants.{On, Short as Full}
 use Rattle.definition.proofs.Laws.Suffix.{after}
+use Rattle.base.specs.declared.id.Node.{Node as Id}
 
 -- a term of a rule, whose words are the rule's from one place to another
 pub record Spells (P : Pack) (r vars from to : ℕ) (t : Term) : Type 0 where
@@ -86,12 +84,12 @@ pub asked-word : (bytes work cells : List ℕ) (c : Catalog) (l : Place) (g : Co
 asked-word bytes work cells c l g env stack top i T = omega (arith, T.place, T.there, T.spells.long, T.spells.within)
 
 -- what it answers
-abbrev pub Takes : List ℕ → List ℕ → List ℕ → List ℕ → List ℕ → Catalog → Place → Counts → List ℕ → List ℕ → List ℕ → ℕ → ℕ → Taken → Type 0
-Takes bytes work work' cells cells' c l g env stack stack' top i (On top' g') =
+abbrev pub Takes : List ℕ → List ℕ → List ℕ → List ℕ → List ℕ → Catalog → Place → Counts → List ℕ → List ℕ → List ℕ → ℕ → ℕ → Option (ℕ × Counts) → Type 0
+Takes bytes work work' cells cells' c l g env stack stack' top i (Some (top', g')) =
     Beside work work' cells l
     × ((P : Pack) → Reads bytes (records_of work c) P → Proper P → (t : Term) (from to j : ℕ) → Spells P l.rule l.vars from to t → i ≡ from + j → j < length (term_words t) → (h : Graph)
     → Built t env h work cells stack l g top (suc j) → Built t env h work' cells' stack' l g' top' j)
-Takes bytes work work' cells cells' c l g env stack stack' top i Full =
+Takes bytes work work' cells cells' c l g env stack stack' top i None =
     (P : Pack) → Reads bytes (records_of work c) P → Proper P → (t : Term) (from to j : ℕ) → Spells P l.rule l.vars from to t → i ≡ from + j → j < length (term_words t) → (h : Graph)
     → Built t env h work cells stack l g top (suc j) → length cells < cells_of (nodes_of t env h j).graph
 
@@ -107,11 +105,11 @@ pub record Asked (bytes work cells : List ℕ) (c : Catalog) (l : Place) (g : Co
   pub nodes : Below (length graph) env
   pub env_long : l.vars ≤ length env
 
-abbrev pub Instantiates : List ℕ → List ℕ → List ℕ → List ℕ → List ℕ → Catalog → Place → Counts → List ℕ → ℕ → ℕ → Pushed → Type 0
-Instantiates bytes work work' cells cells' c l g env from to (At x g') =
+abbrev pub Instantiates : List ℕ → List ℕ → List ℕ → List ℕ → List ℕ → Catalog → Place → Counts → List ℕ → ℕ → ℕ → Option (Id × Counts) → Type 0
+Instantiates bytes work work' cells cells' c l g env from to (Some (x, g')) =
     Beside work work' cells l
     × ((P : Pack) → Reads bytes (records_of work c) P → Proper P → (t : Term) → Spells P l.rule l.vars from to t → (h : Graph) → Shows cells (table_in work l) g h → Inner h → Below (length h) env
     → (x.0 ≡ (instantiate t env h).at) × Shows cells' (table_in work' l) g' (instantiate t env h).graph × Inner (instantiate t env h).graph × (x.0 < length (instantiate t env h).graph))
-Instantiates bytes work work' cells cells' c l g env from to Short =
+Instantiates bytes work work' cells cells' c l g env from to None =
     (P : Pack) → Reads bytes (records_of work c) P → Proper P → (t : Term) → Spells P l.rule l.vars from to t → (h : Graph) → Shows cells (table_in work l) g h → Inner h → Below (length h) env
     → length cells < cells_of (instantiate t env h).graph

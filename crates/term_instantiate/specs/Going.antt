@@ -1,4 +1,5 @@
 -- The words of a term, one after the other: what holds behind each.
+use Rattle.std.specs.Prelude.{Some, None}
 use Rattle.std.specs.Prelude.{◌≡◌, refl, List, ℕ, suc, ◌+◌, ◌-◌, ◌≤◌, ◌<◌, length, get_or}
 use Rattle.std.proofs.Common.{sym, subst, ◌∙◌, arith}
 use Rattle.definition.specs.Pack.{Term, Pack}
@@ -13,11 +14,9 @@ use Rattle.pack_tables.specs.declared.catalog.Catalog.{Catalog}
 use Rattle.pack_read.specs.Reads.{Reads}
 use Rattle.pack_read.specs.Held.{Proper, held_on, reads_on}
 use Rattle.graph.specs.declared.graph.Graph.{Graph as Counts}
-use Rattle.graph.specs.declared.graph.Pushed.TheVariants.{At, Short}
 use Rattle.graph.specs.Cells.{rows_end, Shows}
 use Rattle.theory.specs.Unification.Inner.{Inner}
 use Rattle.term_instantiate.specs.declared.terms.Place.{Place}
-use Rattle.term_instantiate.specs.declared.terms.Taken.TheVariants.{On, Short as Full}
 use Rattle.term_instantiate.specs.Building.{Spells, table_in, Room, Beside, beside_same, Built, Taking, Takes, Asked, Instantiates}
 use Rattle.term_instantiate.specs.Whole.{built-none, cells-grow, built-all}
 
@@ -81,7 +80,7 @@ module _ (bytes before cells₀ : List ℕ) (c : Catalog) (l : Place) (g : Count
       }
 
       module _ (work' cells' stack' : List ℕ) (long : length stack' ≡ length stack) (many : length cells' ≡ length cells) where
-        pub going_on : (top' : ℕ) (h' : Counts) → Takes bytes work work' cells cells' c l h env stack stack' top (i - 1) (On top' h') → Going bytes before cells₀ c l g env from to work' cells' stack' top' (i - 1) h'
+        pub going_on : (top' : ℕ) (h' : Counts) → Takes bytes work work' cells cells' c l h env stack stack' top (i - 1) (Some (top', h')) → Going bytes before cells₀ c l g env from to work' cells' stack' top' (i - 1) h'
         going_on top' h' M = record {
           outside = outside_then l.at (l.at + rows_end cells₀) before work work' G.outside (record { long = M.0.long; ahead = M.0.ahead; behind = λ k q. M.0.behind k (omega (arith, q, G.many)) });
           many = many ∙ G.many;
@@ -94,7 +93,7 @@ module _ (bytes before cells₀ : List ℕ) (c : Catalog) (l : Place) (g : Count
         }
 
         -- there is no room for a node, so the term has more cells than there are
-        pub going_full : Takes bytes work work' cells cells' c l h env stack stack' top (i - 1) Full → Instantiates bytes before work' cells₀ cells' c l g env from to Short
+        pub going_full : Takes bytes work work' cells cells' c l h env stack stack' top (i - 1) None → Instantiates bytes before work' cells₀ cells' c l g env from to None
         going_full M P R Q t Sp k S I b =
             let m = M P (reads_on bytes before work c same A.held.cataloged P R) Q t from to (i - 1 - from) Sp place (word_there t Sp.long) k (subst (Built t env k work cells stack l h top) (sym next) (G.built P R Q t Sp k S I b)) in
             let n = cells-grow P l.rule l.vars from to t Sp env k (i - 1 - from) (omega (arith, word_there t Sp.long)) in
@@ -108,7 +107,7 @@ module _ (bytes before cells₀ : List ℕ) (c : Catalog) (l : Place) (g : Count
       pub going_top : top < 256
       going_top = (built-all A.held.pack l.rule l.vars from to A.term A.spells env A.graph work cells stack l h top G.long (finished A.held.pack A.held.reads A.held.proper A.term A.spells A.graph A.shows A.inner A.nodes)).0
 
-      pub going_done : (x : Node) → x.0 ≡ get_or stack top 0 → Instantiates bytes before work cells₀ cells c l g env from to (At x h)
+      pub going_done : (x : Node) → x.0 ≡ get_or stack top 0 → Instantiates bytes before work cells₀ cells c l g env from to (Some (x, h))
       going_done x e = (
         G.outside,
         λ P R Q t Sp k S I b.

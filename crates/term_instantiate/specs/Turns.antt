@@ -1,4 +1,5 @@
 -- One word of a rule's term taken, and all of them.
+use Rattle.std.specs.Prelude.{Some, None}
 use Rattle.std.specs.Prelude.{◌≡◌, get_or, set}
 use Rattle.std.proofs.Math.Path.{refl, sym, ap, ap₂}
 use Rattle.std.proofs.Common.{◌∙◌, length-set, drop-cons, drop-drop, drop-set-lt, get_or-set_same}
@@ -18,16 +19,17 @@ use Rattle.base.specs.Lent.{back as lent_back, back-first}
 use Rattle.base.specs.Part.{put}
 use Rattle.base.specs.declared.id.Node.{Node}
 use Rattle.pack_tables.specs.declared.catalog.Catalog.{Catalog}
-use Rattle.pack_read.specs.Reads.{rule_words}
+use Rattle.pack_tables.specs.Catalog.{records_of}
+use Rattle.pack_read.specs.Reads.{rule_words, length_symbols}
+use Rattle.pack_read.specs.Says.{OfPack, WordOfRule}
 use Rattle.graph.specs.declared.graph.Graph.{Graph as Counts}
-use Rattle.graph.specs.declared.graph.Pushed.TheVariants.{At, Short}
 use Rattle.graph.specs.Cells.{rows_end, Shows, Unchanged, cells-more}
 use Rattle.graph.specs.Pushes.{Pushes}
 use Rattle.theory.specs.Unification.Inner.{inner_more}
 use Rattle.term_instantiate.specs.declared.terms.Place.{Place}
 use Rattle.definition.proofs.Laws.Suffix.{after, Ahead, a_variable, a_symbol, after-ahead, all_words}
 use Rattle.term_instantiate.specs.Suffix.{after_few, nodes-many, variable-nodes, symbol-nodes}
-use Rattle.term_instantiate.specs.Building.{Spells, table_in, Room, Beside, nodes_of, Built}
+use Rattle.term_instantiate.specs.Building.{Spells, table_in, Room, Beside, nodes_of, Built, Taking, asked-word}
 
 -- ---- the table was lent and came back
 module _ (work cells table' : List ℕ) (c : Catalog) (l : Place) (R : Room work cells c l) (U : Unchanged (rows_end cells) (table_in work l) table') where
@@ -145,7 +147,7 @@ module _ (P : Pack) (few : Few P) (r vars from to i j w : ℕ) (t : Term) (Sp : 
                 let d = ap (λ (x : GrownAll). length x.ats) e in
                 (b, omega (arith, B.high, ap length q, a, f, d, c, arity), omega (arith, B.high, ap length q, a, c, arity))
 
-        module _ (cells' table' : List ℕ) (c : Catalog) (R : Room work cells c l) (x : Node) (g' : Counts) (Q : Pushes cells cells' (table_in work l) table' g (applied w (take (top + n - top) (drop top stack))) (At x g')) where
+        module _ (cells' table' : List ℕ) (c : Catalog) (R : Room work cells c l) (x : Node) (g' : Counts) (Q : Pushes cells cells' (table_in work l) table' g (applied w (take (top + n - top) (drop top stack))) (Some (x, g'))) where
           abbrev after_work : List ℕ
           after_work = put l.at (l.end - l.at) table' work
 
@@ -175,7 +177,7 @@ module _ (P : Pack) (few : Few P) (r vars from to i j w : ℕ) (t : Term) (Sp : 
                     stacked = rw e stacked;
                   }
 
-        pub full-symbol : (cells' table' : List ℕ) → Pushes cells cells' (table_in work l) table' g (applied w (take (top + n - top) (drop top stack))) Short → length cells < cells_of (nodes_of t env h j).graph
+        pub full-symbol : (cells' table' : List ℕ) → Pushes cells cells' (table_in work l) table' g (applied w (take (top + n - top) (drop top stack))) None → length cells < cells_of (nodes_of t env h j).graph
         unfolding push
         full-symbol cells' table' Q = go (is_symbol m)
           where
@@ -185,3 +187,27 @@ module _ (P : Pack) (few : Few P) (r vars from to i j w : ℕ) (t : Term) (Sp : 
                 let lent : take (top + n - top) (drop top stack) ≡ args = ap₂ (λ (i : ℕ) (xs : List ℕ). take i xs) z (B.stacked ∙ q) ∙ take-append_seam args others in
                 let p = Q behind.graph B.shows in
                 rw e (omega (arith, p, ap length lent, cells-more behind.graph (applied w args)))
+
+-- ---- what is asked, and the word that was read
+module _ (bytes work cells : List ℕ) (c : Catalog) (l : Place) (g : Counts) (env stack : List ℕ) (top i w : ℕ) (T : Taking bytes work cells c l g env stack top i) (word : WordOfRule bytes work c l.rule i w) where
+  read : w ≡ get_or (rule_words (rule_of T.held.pack l.rule)) i 0
+  read = word T.held.pack T.held.reads (asked-word bytes work cells c l g env stack top i T)
+
+  -- a variable has a node in the environment, and the stack has room for it
+  pub taking_variable : variable ≤ w → (1 ≤ top) × (top ≤ 256) × (w - variable < length env)
+  taking_variable m =
+      let room = variable-room T.held.pack T.held.proper.few _ _ T.from T.to _ T.word _ T.term T.spells T.place T.there read _ T.graph _ _ _ _ _ _ T.stack_long T.built m in
+      (room.0, room.1, omega (arith, room.2, T.spells.many, T.env_long))
+
+  -- a symbol has a record
+  pub taking_symbol : w < variable → w < length (records_of work c 1)
+  taking_symbol m =
+      let H = T.held in
+      omega (arith, symbol_there H.pack H.proper.few _ _ T.from T.to _ T.word _ T.term T.spells T.place T.there read m, length_symbols _ _ H.pack H.reads)
+
+  -- its arguments stand on the stack
+  pub taking_over : w < variable → (n : ℕ) → OfPack bytes work c (λ P. length (symbol_of P w).inputs) n → (1 ≤ top + n) × (top + n ≤ 256)
+  taking_over m n arity =
+      let H = T.held in
+      let room = symbol-room H.pack H.proper.few _ _ T.from T.to _ T.word _ T.term T.spells T.place T.there read _ T.graph _ _ _ _ _ _ T.stack_long T.built m n (arity H.pack H.reads) in
+      (room.1, room.2)

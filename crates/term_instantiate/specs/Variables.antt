@@ -1,4 +1,5 @@
 -- A rule's variables as the first nodes of a graph.
+use Rattle.std.specs.Prelude.{Option, Some, None}
 use Rattle.std.specs.Prelude.{◌≡◌, refl, false, List, [], ◌∷◌, ◌++◌, map, ℕ, suc, ◌+◌, ◌-◌, ◌≤◌, ◌<◌, length, get_or, take}
 use Rattle.std.proofs.Common.{sym, ap, ◌∙◌, arith, take-suc, length-take-le}
 use Rattle.std.proofs.Math.Seq.{take-length}
@@ -12,15 +13,12 @@ use Rattle.pack_tables.specs.declared.catalog.Catalog.{Catalog}
 use Rattle.pack_read.specs.Reads.{Reads}
 use Rattle.pack_read.specs.Held.{Proper, Held, held_on, reads_on}
 use Rattle.graph.specs.declared.graph.Graph.{Graph as Counts}
-use Rattle.graph.specs.declared.graph.Pushed.TheVariants.{At, Short}
 use Rattle.graph.specs.Cells.{mark_in, rows_end, Shows, Unchanged}
 use Rattle.graph.specs.Pushes.{Pushes}
 use Rattle.theory.specs.Unification.Inner.{Inner, inner_more}
 use Rattle.base.specs.Part.{put, length_part}
 use Rattle.base.specs.declared.id.Node.{Node}
 use Rattle.term_instantiate.specs.declared.terms.Place.{Place}
-use Rattle.term_instantiate.specs.declared.variables.Opened.{Opened}
-use Rattle.term_instantiate.specs.declared.variables.Opened.TheVariants.{On, Short as Full}
 use Rattle.term_instantiate.specs.Building.{table_in, Room, Beside, beside_same}
 use Rattle.term_instantiate.specs.Turns.{lent-table, lent_outside}
 
@@ -37,11 +35,11 @@ pub record Opening (bytes work cells : List ℕ) (c : Catalog) (l : Place) : Typ
   pub small : length cells < nothing
 
 -- what is answered: a graph of the variables alone, or that they are more than there are cells
-abbrev pub Opens : List ℕ → List ℕ → List ℕ → List ℕ → List ℕ → Catalog → Place → Opened → Type 0
-Opens bytes work work' cells cells' c l (On g) =
+abbrev pub Opens : List ℕ → List ℕ → List ℕ → List ℕ → List ℕ → Catalog → Place → Option Counts → Type 0
+Opens bytes work work' cells cells' c l (Some g) =
     Beside work work' cells l
     × ((P : Pack) → Reads bytes (records_of work c) P → Proper P → l.vars ≡ length (rule_of P l.rule).vars → Shows cells' (table_in work' l) g (variables_of (rule_of P l.rule).vars) × Inner (variables_of (rule_of P l.rule).vars))
-Opens bytes work work' cells cells' c l Full = (P : Pack) → Reads bytes (records_of work c) P → Proper P → l.vars ≡ length (rule_of P l.rule).vars → length cells < cells_of (variables_of (rule_of P l.rule).vars)
+Opens bytes work work' cells cells' c l None = (P : Pack) → Reads bytes (records_of work c) P → Proper P → l.vars ≡ length (rule_of P l.rule).vars → length cells < cells_of (variables_of (rule_of P l.rule).vars)
 
 -- the table is long enough for the rows
 pub table_long : (work cells : List ℕ) (c : Catalog) (l : Place) → Room work cells c l → rows_end cells ≤ length (table_in work l)
@@ -91,7 +89,7 @@ module _ (bytes before cells₀ : List ℕ) (c : Catalog) (l : Place) (H : Held 
     back = put l.at (l.end - l.at) table' work
 
     -- one more
-    pub first_more : (many : length cells' ≡ length cells) (x : Node) (g' : Counts) → Pushes cells cells' (table_in work l) table' g (variable_vertex sort (mark_in 0) (mark_in 0)) (At x g') → First bytes before cells₀ c l back cells' g' (k + 1)
+    pub first_more : (many : length cells' ≡ length cells) (x : Node) (g' : Counts) → Pushes cells cells' (table_in work l) table' g (variable_vertex sort (mark_in 0) (mark_in 0)) (Some (x, g')) → First bytes before cells₀ c l back cells' g' (k + 1)
     first_more many x g' M =
         let U = lent_outside work cells table' c l first-room M.1 in
         record {
@@ -109,14 +107,14 @@ module _ (bytes before cells₀ : List ℕ) (c : Catalog) (l : Place) (H : Held 
         }
 
     -- there is no room for it
-    pub first-full : (work' : List ℕ) → Pushes cells cells' (table_in work l) table' g (variable_vertex sort (mark_in 0) (mark_in 0)) Short → Opens bytes before work' cells₀ cells' c l Full
+    pub first-full : (work' : List ℕ) → Pushes cells cells' (table_in work l) table' g (variable_vertex sort (mark_in 0) (mark_in 0)) None → Opens bytes before work' cells₀ cells' c l None
     first-full work' M P R Q e =
         let vars = (rule_of P l.rule).vars in
         let m = M (variables_of (take k vars)) (F.shows P R e).0 in
         omega (arith, m, variables_cells (take k vars), length-take-le k vars (omega (arith, some, e)), variables_cells vars, some, e, F.many)
 
   -- all are there
-  pub first-all : l.vars ≤ k → Opens bytes before work cells₀ cells c l (On g)
+  pub first-all : l.vars ≤ k → Opens bytes before work cells₀ cells c l (Some g)
   first-all done = (
     F.outside,
     λ P R Q e.
@@ -146,8 +144,8 @@ module _ (bytes work cells table' : List ℕ) (c : Catalog) (l : Place) (A : Ope
   pub none_shows : (g : Counts) → Shows cells table' g [] → Shows cells (table_in none l) g []
   none_shows g S = rw (lent-table work cells table' c l A.room U) S
 
-  pub opens_on : (work' cells' : List ℕ) (g : Counts) → Opens bytes none work' cells cells' c l (On g) → Opens bytes work work' cells cells' c l (On g)
+  pub opens_on : (work' cells' : List ℕ) (g : Counts) → Opens bytes none work' cells cells' c l (Some g) → Opens bytes work work' cells cells' c l (Some g)
   opens_on work' cells' g O = (outside_then l.at (l.at + rows_end cells) work none work' none_outside O.0, λ P R Q e. O.1 P (reads_on bytes work none c none-same A.held.cataloged P R) Q e)
 
-  pub opens_full : (work' cells' : List ℕ) → Opens bytes none work' cells cells' c l Full → Opens bytes work work' cells cells' c l Full
+  pub opens_full : (work' cells' : List ℕ) → Opens bytes none work' cells cells' c l None → Opens bytes work work' cells cells' c l None
   opens_full work' cells' O P R Q e = O P (reads_on bytes work none c none-same A.held.cataloged P R) Q e

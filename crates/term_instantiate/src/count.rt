@@ -8,9 +8,7 @@ pub fn count_up(env: &mut [u32], n: usize)
     requires { (n ≤ length env.old) × (n ≤ most_variables) }
     ensures { take n env.new ≡ up_to n }
 {
-    let mut i: usize = 0;
-    while i < n {
+    for i in 0..n {
         env[i] = i as u32;
-        i += 1;
     }
 }

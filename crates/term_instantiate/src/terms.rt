@@ -4,7 +4,7 @@ ghost use Rattle.term_instantiate.specs.Building.{Taking, Takes, Asked, Instanti
 
 use base::id::{Node, Prefix};
 use base::limit::Limit;
-use graph::graph::{Graph, Pushed};
+use graph::graph::Graph;
 use pack_read::rule::rule_word;
 use pack_read::symbol::symbol_arity;
 use pack_tables::catalog::Catalog;
@@ -18,14 +18,8 @@ pub struct Place {
     pub end: usize,
 }
 
-// The stack's top and the graph behind a word, or that there is no room for its node.
-#[derive(Clone, Copy)]
-enum Taken {
-    On(usize, Graph),
-    Short,
-}
-
-// Word `i` of the rule: a variable's node is the environment's, a symbol is a node more over the first nodes on the stack.
+// Word `i` of the rule: a variable's node is the environment's, a symbol is a node more over the first nodes on the stack. None where the
+// cells have no room.
 fn take_word(
     pack: &[u8],
     work: &mut [u32],
@@ -37,7 +31,7 @@ fn take_word(
     stack: &mut [u32],
     top: usize,
     i: usize,
-) -> Taken
+) -> Option<(usize, Graph)>
     requires { Taking pack.now work.old cells.old c l g env.now stack.old top i }
     ensures { Takes pack.now work.old work.new cells.old cells.new c l g env.now stack.old stack.new top i result }
 {
@@ -45,22 +39,17 @@ fn take_word(
     if Prefix::VAR <= w {
         let k = (w - Prefix::VAR) as usize;
         stack[top - 1] = env[k];
-        return Taken::On(top - 1, g);
+        return Some((top - 1, g));
     }
     let n = symbol_arity(pack, work, c, w as usize);
     let last = top + n;
-    let at = l.at;
-    let end = l.end;
-    match g.push(cells, &mut work[at..end], w, &stack[top..last]) {
-        Pushed::At(x, h) => {
-            stack[last - 1] = x.0;
-            Taken::On(last - 1, h)
-        }
-        Pushed::Short => Taken::Short,
-    }
+    let (x, h) = g.push(cells, &mut work[l.at..l.end], w, &stack[top..last])?;
+    stack[last - 1] = x.0;
+    Some((last - 1, h))
 }
 
-// The term whose words are those of the rule from `from` to `to`, with the environment's nodes for its variables.
+// The term whose words are those of the rule from `from` to `to`, with the environment's nodes for its variables; none where the cells
+// have no room.
 pub fn instantiate(
     pack: &[u8],
     work: &mut [u32],
@@ -71,25 +60,15 @@ pub fn instantiate(
     env: &[u32],
     from: usize,
     to: usize,
-) -> Pushed
+) -> Option<(Node, Graph)>
     requires { Asked pack.now work.old cells.old c l g env.now from to }
     ensures { Instantiates pack.now work.old work.new cells.old cells.new c l g env.now from to result }
 {
     let mut stack = [0; Limit::WORDS];
     let mut top: usize = Limit::WORDS;
-    let mut i = to;
     let mut h = g;
-    while from < i {
-        match take_word(pack, work, cells, c, l, h, env, &mut stack, top, i - 1) {
-            Taken::On(more, grown) => {
-                top = more;
-                h = grown;
-                i -= 1;
-            }
-            Taken::Short => {
-                return Pushed::Short;
-            }
-        }
+    for i in (from..to).rev() {
+        (top, h) = take_word(pack, work, cells, c, l, h, env, &mut stack, top, i)?;
     }
-    Pushed::At(Node(stack[top]), h)
+    Some((Node(stack[top]), h))
 }

@@ -1,4 +1,5 @@
 -- What writing leaves of lifting's words, of the table and of what was read back.
+use Rattle.std.specs.Prelude.{Option, Some, None}
 use Rattle.std.specs.Prelude.{◌≡◌, ℕ, ◌+◌, ◌-◌, ◌≤◌, ◌<◌, length}
 use Rattle.std.proofs.Common.{sym, ◌∙◌, arith}
 use Rattle.std.proofs.Math.Path.{ap, ap₂, subst}
@@ -14,8 +15,6 @@ use Rattle.base.specs.Part.{put, part_same, part-put, length_part, length-put, p
 use Rattle.store.specs.Words.{node_with, begins_long, words-most}
 use Rattle.store.specs.Stored.{Stored, nodes, written, Answer}
 use Rattle.store.specs.declared.nodes.Store.{Store}
-use Rattle.store.specs.declared.nodes.Interned.{Interned}
-use Rattle.store.specs.declared.nodes.Interned.TheVariants.{Id, Short}
 use Rattle.base.specs.declared.id.Pattern.{Pattern}
 use Rattle.pack_tables.specs.declared.catalog.Catalog.{Catalog}
 use Rattle.pack_read.specs.Held.{reads_back}
@@ -44,13 +43,13 @@ pub record Indexed (work words : List ℕ) (l : Lifted) (st : Store) : Type 0 wh
   pub index : Stored (index_in work l) words st
 
 -- what `intern_key` answers: the definition's number and store, with its words written, and what was lifted is still; or short
-abbrev pub Interns : List ℕ → List ℕ → List ℕ → List ℕ → Lifted → Store → List ℕ → Interned → Type 0
-Interns work words work' words' l st key (Id p st') =
+abbrev pub Interns : List ℕ → List ℕ → List ℕ → List ℕ → Lifted → Store → List ℕ → Option (Pattern × Store) → Type 0
+Interns work words work' words' l st key (Some (p, st')) =
     ((bytes : List ℕ) (c : Catalog) → Lifts bytes work words c l st → Lifts bytes work' words' c l st')
     × (intern (nodes words st) (node_with key) ≡ stored p.0 (nodes words' st'))
     × (words' ≡ written (nodes words' st') words)
     × Apart work work' l
-Interns work words work' words' l st key Short =
+Interns work words work' words' l st key None =
     (length words < length (pattern_words (intern (nodes words st) (node_with key)).store))
     × Apart work work' l
 
@@ -88,11 +87,11 @@ module _ (work words : List ℕ) (l : Lifted) (st : Store) (X : Indexed work wor
   }
 
   -- there is no room
-  interns_short : Answer (index_in work l) words idx words' st key Short → Interns work words back words' l st key Short
+  interns_short : Answer (index_in work l) words idx words' st key None → Interns work words back words' l st key None
   interns_short A = (A.0, back_apart)
 
   -- there is
-  interns_id : (p : Pattern) (st' : Store) → Answer (index_in work l) words idx words' st key (Id p st') → Interns work words back words' l st key (Id p st')
+  interns_id : (p : Pattern) (st' : Store) → Answer (index_in work l) words idx words' st key (Some (p, st')) → Interns work words back words' l st key (Some (p, st'))
   unfolding lifted_in
   interns_id p st' A =
       let o = intern (nodes words st) (node_with key) in
@@ -112,6 +111,6 @@ module _ (work words : List ℕ) (l : Lifted) (st : Store) (X : Indexed work wor
       )
 
   -- either way
-  pub interns : (r : Interned) → Answer (index_in work l) words idx words' st key r → Interns work words back words' l st key r
-  interns (Id p st') A = interns_id p st' A
-  interns Short A = interns_short A
+  pub interns : (r : Option (Pattern × Store)) → Answer (index_in work l) words idx words' st key r → Interns work words back words' l st key r
+  interns (Some (p, st')) A = interns_id p st' A
+  interns None A = interns_short A

@@ -1,4 +1,5 @@
 -- What the words of work say of the ground nodes that were lifted, and what lifting asks and answers.
+use Rattle.std.specs.Prelude.{Option, Some, None}
 use Rattle.std.specs.Prelude.{◌≡◌, List, [], ◌∷◌, map, ℕ, zero, suc, ◌+◌, ◌*◌, ◌-◌, ◌≤◌, ◌<◌, length, get_or, take}
 use Rattle.definition.specs.Pack.{Pack, node_of}
 use Rattle.definition.specs.Verdict.{Bound}
@@ -13,8 +14,6 @@ use Rattle.base.specs.Outside.{Outside}
 use Rattle.base.specs.Part.{part}
 use Rattle.store.specs.Stored.{Stored, nodes, written}
 use Rattle.store.specs.declared.nodes.Store.{Store}
-use Rattle.store.specs.declared.nodes.Interned.{Interned}
-use Rattle.store.specs.declared.nodes.Interned.TheVariants.{Id, Short}
 use Rattle.pack_tables.specs.Catalog.{records_of}
 use Rattle.pack_tables.specs.SameTables.{end_of}
 use Rattle.pack_tables.specs.declared.catalog.Catalog.{Catalog}
@@ -22,8 +21,7 @@ use Rattle.pack_read.specs.Reads.{Reads}
 use Rattle.pack_read.specs.Held.{Proper, Held, OfHeld}
 use Rattle.term_lift.specs.Alike.{Alike}
 use Rattle.term_lift.specs.declared.lift.Lifted.{Lifted}
-use Rattle.term_lift.specs.declared.lift.Turn.{Turn}
-use Rattle.term_lift.specs.declared.lift.Turn.TheVariants as turns
+use Rattle.base.specs.declared.id.Pattern.{Pattern}
 
 -- where the walk's stack starts
 abbrev pub stack_at : Lifted → ℕ
@@ -76,13 +74,13 @@ pub record Clears (work work' : List ℕ) (l : Lifted) : Type 0 where
   pub lifts : (bytes words : List ℕ) (c : Catalog) (st : Store) → Laid bytes work words c l st → Lifts bytes work' words c l st
 
 -- what `lift` answers: the definition's number and store, with its words written; or short, when these words are more than there are
-abbrev pub Answers : List ℕ → List ℕ → List ℕ → List ℕ → List ℕ → Catalog → Lifted → Store → ℕ → Interned → Type 0
-Answers bytes work words work' words' c l st n (Id p st') =
+abbrev pub Answers : List ℕ → List ℕ → List ℕ → List ℕ → List ℕ → Catalog → Lifted → Store → ℕ → Option (Pattern × Store) → Type 0
+Answers bytes work words work' words' c l st n (Some (p, st')) =
     Lifts bytes work' words' c l st'
     × OfHeld bytes work c (λ P. lift (tree_of P n) (nodes words st) ≡ stored p.0 (nodes words' st'))
     × (words' ≡ written (nodes words' st') words)
     × Apart work work' l
-Answers bytes work words work' words' c l st n Short =
+Answers bytes work words work' words' c l st n None =
     OfHeld bytes work c (λ P. length words < length (pattern_words (lift (tree_of P n) (nodes words st)).store))
     × Apart work work' l
 
@@ -110,14 +108,14 @@ abbrev pub StackKept : List ℕ → List ℕ → Lifted → Type 0
 StackKept work work' l = (i : ℕ) → stack_at l ≤ i → i < index_at l → get_or work' i 0 ≡ get_or work i 0
 
 -- what `finish` answers: the state with the node lifted, as far as the memo's order goes; or short
-abbrev pub Finishes : List ℕ → List ℕ → List ℕ → List ℕ → List ℕ → Catalog → Lifted → Store → ℕ → Interned → Type 0
-Finishes bytes work words work' words' c l st n (Id p st') =
+abbrev pub Finishes : List ℕ → List ℕ → List ℕ → List ℕ → List ℕ → Catalog → Lifted → Store → ℕ → Option (Pattern × Store) → Type 0
+Finishes bytes work words work' words' c l st n (Some (p, st')) =
     Laid bytes work' words' c l st'
     × Apart work work' l
     × StackKept work work' l
     × (words' ≡ written (nodes words' st') words)
     × OfHeld bytes work c (λ P. Alike (lifted_in work' words' l st') (lift_node P n (lifted_in work words l st)))
-Finishes bytes work words work' words' c l st n Short =
+Finishes bytes work words work' words' c l st n None =
     Apart work work' l
     × OfHeld bytes work c (λ P. length words < length (pattern_words (lift_node P n (lifted_in work words l st)).store))
 
@@ -142,12 +140,12 @@ unfolding turn is_lifted lift_node frames_in lifted_in
 turn_in P work words l st top = turn (args_of P) is_lifted (lift_node P) (frames_in work (stack_at l) (suc top)) (lifted_in work words l st)
 
 -- what `advance` answers: the machine's stack and state after the turn; or short
-abbrev pub Advances : List ℕ → List ℕ → List ℕ → List ℕ → List ℕ → Catalog → Lifted → Store → ℕ → Turn → Type 0
-Advances bytes work words work' words' c l st top (turns.On k st') =
+abbrev pub Advances : List ℕ → List ℕ → List ℕ → List ℕ → List ℕ → Catalog → Lifted → Store → ℕ → Option (ℕ × Store) → Type 0
+Advances bytes work words work' words' c l st top (Some (k, st')) =
     Laid bytes work' words' c l st'
     × Apart work work' l
     × (words' ≡ written (nodes words' st') words)
     × OfHeld bytes work c (λ P. (frames_in work' (stack_at l) k ≡ (turn_in P work words l st top).stack) × Alike (lifted_in work' words' l st') (turn_in P work words l st top).state)
-Advances bytes work words work' words' c l st top turns.Short =
+Advances bytes work words work' words' c l st top None =
     Apart work work' l
     × OfHeld bytes work c (λ P. length words < length (pattern_words (turn_in P work words l st top).state.store))

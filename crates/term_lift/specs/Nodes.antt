@@ -1,4 +1,5 @@
 -- What writing leaves of the tables, the nodes' words cleared, and one node lifted.
+use Rattle.std.specs.Prelude.{Some, None}
 use Rattle.std.specs.Prelude.{◌≡◌, refl, eqb, ltb, length, set, take, drop, replicate}
 use Rattle.std.proofs.Math.Path.{sym, ap, subst}
 use Rattle.std.proofs.Common.{ap₂, ◌∙◌, arith, eqb-true, length-set}
@@ -25,7 +26,6 @@ use Rattle.base.specs.Part.{put, length_part, part-lent, part-set, part-set-befo
 use Rattle.store.specs.Words.{node_with, node_of_law, begins_long, words-most}
 use Rattle.store.specs.Stored.{Stored, nodes, written, Answer}
 use Rattle.store.specs.declared.nodes.Store.{Store}
-use Rattle.store.specs.declared.nodes.Interned.TheVariants.{Id, Short}
 use Rattle.base.specs.declared.id.Pattern.{Pattern}
 use Rattle.pack_tables.specs.Catalog.{records_of}
 use Rattle.pack_tables.specs.SameTables.{Same, same-records}
@@ -165,14 +165,14 @@ module _ (bytes work words : List ℕ) (c : Catalog) (l : Lifted) (st : Store) (
     back_inside = omega (arith, back_long, R.given, R.inside)
 
     -- there is no room
-    pub finish_short : Answer (index_in work l) words idx words' st lent Short → Finishes bytes work words back words' c l st n Short
+    pub finish_short : Answer (index_in work l) words idx words' st lent None → Finishes bytes work words back words' c l st n None
     unfolding lift_node
     finish_short A = (
       record { long = back_long; ahead = λ i h. back-before i (omega arith); behind = back-behind },
       λ P r p. rw (← made P r p) A.0,
     )
 
-    module _ (p : Pattern) (st' : Store) (A : Answer (index_in work l) words idx words' st lent (Id p st')) where
+    module _ (p : Pattern) (st' : Store) (A : Answer (index_in work l) words idx words' st lent (Some (p, st'))) where
       -- the words with the node's own written
       abbrev last : List ℕ
       last = set back (l.at + n) (p.0 + 1)
@@ -208,7 +208,7 @@ module _ (bytes work words : List ℕ) (c : Catalog) (l : Lifted) (st : Store) (
           omega (arith, A.0, ap length e, words-most (nodes words' st'), begins_long (nodes words' st') words' b.begins, b.enough.small)
 
       -- the node is lifted
-      pub finish_id : Finishes bytes work words last words' c l st n (Id p st')
+      pub finish_id : Finishes bytes work words last words' c l st n (Some (p, st'))
       unfolding lift_node value_of lifted_in
       finish_id = (
         laid_on bytes work words c l st L last words' st' last_long last-ahead (subst (λ (xs : List ℕ). Stored xs words' st') (sym last_index) A.3),

@@ -1,4 +1,5 @@
 -- The loop of lifting: what is left of the stack gives the whole walk, and so what `lift` of the node's tree gives.
+use Rattle.std.specs.Prelude.{Option, Some, None}
 use Rattle.std.specs.Prelude.{◌≡◌, refl, List, [], ◌∷◌, ◌++◌, map, ℕ, suc, ◌+◌, ◌*◌, ◌-◌, ◌≤◌, ◌<◌, length, set, drop}
 use Rattle.std.proofs.Math.Path.{sym, ap, ap₂, subst}
 use Rattle.std.proofs.Common.{◌∙◌, ltb-true, length-append, drop-drop}
@@ -21,8 +22,6 @@ use Rattle.store.specs.Words.{words_append}
 use Rattle.store.specs.Stored.{Stored, nodes, written}
 use Rattle.store.specs.Table.{begins_written}
 use Rattle.store.specs.declared.nodes.Store.{Store}
-use Rattle.store.specs.declared.nodes.Interned.{Interned}
-use Rattle.store.specs.declared.nodes.Interned.TheVariants.{Id, Short}
 use Rattle.base.specs.declared.id.Pattern.{Pattern}
 use Rattle.pack_tables.specs.Place.{body_at}
 use Rattle.pack_tables.specs.Catalog.{records_of}
@@ -36,7 +35,6 @@ use Rattle.term_lift.specs.Lifts.{stack_at, index_at, index_in, lifted_in, frame
 use Rattle.term_lift.specs.Memo.{lifted_word, copied-word, lifted_same}
 use Rattle.term_lift.specs.Nodes.{laid_same, laid_on}
 use Rattle.term_lift.specs.declared.lift.Lifted.{Lifted}
-use Rattle.term_lift.specs.declared.lift.Turn.TheVariants as turns
 
 -- ---- what holds of one lifting holds of one like it
 -- a frame below the top waits
@@ -191,7 +189,7 @@ module _ (bytes work₀ words₀ : List ℕ) (c : Catalog) (l : Lifted) (st₀ :
     reads_now P r = reads_on bytes work₀ work c (laid_same bytes work₀ words₀ c l st₀ L₀ work W.apart.long W.apart.ahead) L₀.held.cataloged P r
 
     -- one turn more
-    module _ (work' words' : List ℕ) (k : ℕ) (st' : Store) (A : Advances bytes work words work' words' c l st top (turns.On k st')) where
+    module _ (work' words' : List ℕ) (k : ℕ) (st' : Store) (A : Advances bytes work words work' words' c l st top (Some (k, st'))) where
       -- the state then
       abbrev s' : Lifting
       s' = lifted_in work' words' l st'
@@ -256,7 +254,7 @@ module _ (bytes work₀ words₀ : List ℕ) (c : Catalog) (l : Lifted) (st₀ :
           omega (arith, (turn_on P q p).measure)
 
     -- there is no room for a node
-    pub walks_short : (work' words' : List ℕ) → length words ≡ length words₀ → Advances bytes work words work' words' c l st top turns.Short → Answers bytes work₀ words₀ work' words' c l st₀ n Short
+    pub walks_short : (work' words' : List ℕ) → length words ≡ length words₀ → Advances bytes work words work' words' c l st top None → Answers bytes work₀ words₀ work' words' c l st₀ n None
     walks_short work' words' e A = (
       λ P r p.
           let q = reads_now P r in
@@ -285,7 +283,7 @@ module _ (bytes work₀ words₀ : List ℕ) (c : Catalog) (l : Lifted) (st₀ :
         ltb-true 0 (get_or work (l.at + n) 0) (sym (lifted_word work words l st n F.given) ∙ alike_known (lifted_in work words l st) (whole P) (ended P r p) n ∙ k)
 
     -- its pattern is the definition's
-    pub walks_done : (q : Pattern) → q.0 ≡ get_or work (l.at + n) 0 - 1 → Answers bytes work₀ words₀ work words c l st₀ n (Id q st)
+    pub walks_done : (q : Pattern) → q.0 ≡ get_or work (l.at + n) 0 - 1 → Answers bytes work₀ words₀ work words c l st₀ n (Some (q, st))
     unfolding lifted_in
     walks_done q e = (
       W.running.lifts,
@@ -395,15 +393,15 @@ module _ (bytes work words : List ℕ) (c : Catalog) (l : Lifted) (st : Store) (
   }
 
   -- what is answered from then on is answered from the start
-  pub first_answers : (work' words' : List ℕ) (r : Interned) → Answers bytes first words work' words' c l st n r → Answers bytes work words work' words' c l st n r
-  first_answers work' words' (Id q st') A = (
+  pub first_answers : (work' words' : List ℕ) (r : Option (Pattern × Store)) → Answers bytes first words work' words' c l st n r → Answers bytes work words work' words' c l st n r
+  first_answers work' words' (Some (q, st')) A = (
     A.0,
     λ P r p. A.1 P (reads_on bytes work first c first-same T.laid.held.cataloged P r) p,
     A.2,
     outside_then l.at l.end work first work' first_apart A.3,
   )
-  first_answers work' words' Short A = (λ P r p. A.0 P (reads_on bytes work first c first-same T.laid.held.cataloged P r) p, outside_then l.at l.end work first work' first_apart A.1)
+  first_answers work' words' None A = (λ P r p. A.0 P (reads_on bytes work first c first-same T.laid.held.cataloged P r) p, outside_then l.at l.end work first work' first_apart A.1)
 
   -- the pattern is read where no frame is left
-  pub first_done : (work' words' : List ℕ) (st' : Store) → Walks bytes first words work' words' c l st st' n 0 → (q : Pattern) → q.0 ≡ get_or work' (l.at + n) 0 - 1 → Answers bytes work words work' words' c l st n (Id q st')
-  first_done work' words' st' W q e = first_answers work' words' (Id q st') (walks_done bytes first words c l st n first_starts work' words' st' W q e)
+  pub first_done : (work' words' : List ℕ) (st' : Store) → Walks bytes first words work' words' c l st st' n 0 → (q : Pattern) → q.0 ≡ get_or work' (l.at + n) 0 - 1 → Answers bytes work words work' words' c l st n (Some (q, st'))
+  first_done work' words' st' W q e = first_answers work' words' (Some (q, st')) (walks_done bytes first words c l st n first_starts work' words' st' W q e)

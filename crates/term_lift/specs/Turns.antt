@@ -1,4 +1,5 @@
 -- One turn on the stack: what is asked for it, and what each way of it leaves.
+use Rattle.std.specs.Prelude.{Some, None}
 use Rattle.std.specs.Prelude.{◌≡◌, refl, Bool, false, ltb, set}
 use Rattle.std.proofs.Common.{sym, ◌∙◌, subst, add-one, length-set, get_or-set_same, get_or-set_other}
 use Rattle.std.proofs.Math.Path.{ap, ap₂}
@@ -18,7 +19,6 @@ use Rattle.base.specs.Part.{part-set-behind, part-set-before}
 use Rattle.store.specs.Stored.{Stored, nodes, written}
 use Rattle.store.specs.Table.{begins_written}
 use Rattle.store.specs.declared.nodes.Store.{Store}
-use Rattle.store.specs.declared.nodes.Interned.TheVariants.{Id, Short}
 use Rattle.base.specs.declared.id.Pattern.{Pattern}
 use Rattle.pack_tables.specs.Catalog.{records_of}
 use Rattle.pack_tables.specs.declared.catalog.Catalog.{Catalog}
@@ -31,7 +31,6 @@ use Rattle.term_lift.specs.Memo.{lifted_word, lifted_same, frames_same}
 use Rattle.term_lift.specs.Keys.{arguments_few, argument_given}
 use Rattle.term_lift.specs.Nodes.{laid_on}
 use Rattle.term_lift.specs.declared.lift.Lifted.{Lifted}
-use Rattle.term_lift.specs.declared.lift.Turn.TheVariants as turns
 
 -- as many frames as are counted
 pub length_frames : (work : List ℕ) (a k : ℕ) → length (frames_in work a k) ≡ k
@@ -97,7 +96,7 @@ module _ (bytes work words : List ℕ) (c : Catalog) (l : Lifted) (st : Store) (
   still = begins_written (nodes words st) words L.index.placed.begins
 
   -- it is dropped
-  pub turn_passed : (b : Bool) → b ≡ (eqb taken 0 and ltb 0 (get_or work (l.at + n) 0)) → b ≡ true → Advances bytes work words work words c l st top (turns.On top st)
+  pub turn_passed : (b : Bool) → b ≡ (eqb taken 0 and ltb 0 (get_or work (l.at + n) 0)) → b ≡ true → Advances bytes work words work words c l st top (Some (top, st))
   unfolding turn_in turn frames_in
   turn_passed b e t =
       let s : eqb taken 0 and is_lifted (lifted_in work words l st) n ≡ true = seen b e ∙ t in
@@ -208,7 +207,7 @@ module _ (bytes work words : List ℕ) (c : Catalog) (l : Lifted) (st : Store) (
             ∙ part-set-before (index_at l) (l.end - index_at l) work (at + 1) (taken + 1) (omega (arith, more_room))
 
         -- the argument gets a frame
-        pub turn_entered : Advances bytes work words above words c l st top (turns.On (top + 2) st)
+        pub turn_entered : Advances bytes work words above words c l st top (Some ((top + 2), st))
         turn_entered =
             let two : top + 2 ≡ suc (suc top) = omega arith in
             let ahead : (j : ℕ) → j < l.at → get_or above j 0 ≡ get_or work j 0 = λ j q. above-under j (omega arith) in (
@@ -243,7 +242,7 @@ module _ (bytes work words : List ℕ) (c : Catalog) (l : Lifted) (st : Store) (
       }
 
       -- the node is lifted
-      pub turn_finished : (work' words' : List ℕ) (q : Pattern) (st' : Store) → Finishes bytes work words work' words' c l st n (Id q st') → Advances bytes work words work' words' c l st top (turns.On top st')
+      pub turn_finished : (work' words' : List ℕ) (q : Pattern) (st' : Store) → Finishes bytes work words work' words' c l st n (Some (q, st')) → Advances bytes work words work' words' c l st top (Some (top, st'))
       turn_finished work' words' q st' F = (
         F.0,
         F.1,
@@ -256,5 +255,5 @@ module _ (bytes work words : List ℕ) (c : Catalog) (l : Lifted) (st : Store) (
       )
 
       -- there is no room for it
-      pub turn_short : (work' words' : List ℕ) → Finishes bytes work words work' words' c l st n Short → Advances bytes work words work' words' c l st top turns.Short
+      pub turn_short : (work' words' : List ℕ) → Finishes bytes work words work' words' c l st n None → Advances bytes work words work' words' c l st top None
       turn_short work' words' F = (F.0, λ P r p. rw (finishes P r) (F.1 P r p))

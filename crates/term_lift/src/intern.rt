@@ -3,7 +3,8 @@ ghost use Rattle.std.specs.Prelude.{◌<◌, length};
 ghost use Rattle.term_lift.specs.Kept.{Indexed, Interns};
 
 use crate::lift::Lifted;
-use store::nodes::{Interned, Store};
+use base::id::Pattern;
+use store::nodes::Store;
 
 // The node of `key` in the store: its number, and the store that has it; or that there is no room for it.
 pub fn intern_key(
@@ -12,11 +13,10 @@ pub fn intern_key(
     l: Lifted,
     st: Store,
     key: &[u32],
-) -> Interned
+) -> Option<(Pattern, Store)>
     requires { Indexed work.old words.old l st × (0 < length key.now) }
     ensures { Interns work.old words.old work.new words.new l st key.now result }
 {
     let from = l.at + Lifted::NODE * l.nodes;
-    let end = l.end;
-    st.intern(&mut work[from..end], words, key)
+    st.intern(&mut work[from..l.end], words, key)
 }

@@ -8,10 +8,9 @@ ghost use Rattle.definition.specs.Pack.{most_arity};
 use base::id::{Ground, Pattern};
 use base::limit::Limit;
 use base::stack::Frame;
-use buffer::zero::zero_words;
 use pack_read::node::{node_argument, node_arity, node_head};
 use pack_tables::catalog::Catalog;
-use store::nodes::{Interned, Store};
+use store::nodes::Store;
 
 // Where lifting has its tables in work: a word for each ground node, its pattern and one or 0; behind them the walk's stack, two words
 // for each; then the store's index, up to `end`.
@@ -20,13 +19,6 @@ pub struct Lifted {
     pub at: usize,
     pub nodes: usize,
     pub end: usize,
-}
-
-// So many frames stand on the stack, and the store as it is then; or there is no room for a node.
-#[derive(Clone, Copy)]
-enum Turn {
-    On(usize, Store),
-    Short,
 }
 
 impl Lifted {
@@ -38,9 +30,7 @@ impl Lifted {
         requires { self.at + self.nodes ≤ length work.old }
         ensures { Clears work.old work.new self }
     {
-        let at = self.at;
-        let end = at + self.nodes;
-        zero_words(&mut work[at..end]);
+        work[self.at..self.at + self.nodes].fill(0);
     }
 }
 
@@ -52,8 +42,7 @@ fn passes(work: &[u32], l: Lifted, n: usize, taken: usize) -> bool
     if taken != 0 {
         return false;
     }
-    let at = l.at + n;
-    0 < work[at]
+    0 < work[l.at + n]
 }
 
 // One argument more is taken by the frame at `at`, and `a` gets a frame above it.
@@ -74,16 +63,14 @@ fn key_of(pack: &[u8], work: &[u32], c: Catalog, l: Lifted, n: Ground, key: &mut
     let at = l.at;
     let k = node_arity(pack, work, c, n);
     key[0] = node_head(pack, work, c, n);
-    let mut i: usize = 0;
-    while i < k {
+    for i in 0..k {
         let a = node_argument(pack, work, c, n, i).0 as usize;
-        i += 1;
-        key[i] = work[at + a] - 1;
+        key[i + 1] = work[at + a] - 1;
     }
     k + 1
 }
 
-// Node `n`, whose arguments are lifted, is lifted.
+// Node `n`, whose arguments are lifted, is lifted; none where the pattern words have no room.
 fn finish(
     pack: &[u8],
     work: &mut [u32],
@@ -92,26 +79,20 @@ fn finish(
     l: Lifted,
     st: Store,
     n: Ground,
-) -> Interned
+) -> Option<(Pattern, Store)>
     requires { Laid pack.now work.old words.old c l st × Ripe pack.now work.old c l n.0 }
     ensures { Finishes pack.now work.old words.old work.new words.new c l st n.0 result }
 {
     let mut key = [0; Limit::KEY];
     let k = key_of(pack, work, c, l, n, &mut key);
     let from = l.at + Lifted::NODE * l.nodes;
-    let end = l.end;
-    match st.intern(&mut work[from..end], words, &key[0..k]) {
-        Interned::Id(p, more) => {
-            let at = l.at + n.0 as usize;
-            work[at] = p.0 + 1;
-            Interned::Id(p, more)
-        }
-        Interned::Short => Interned::Short,
-    }
+    let (p, more) = st.intern(&mut work[from..l.end], words, &key[0..k])?;
+    work[l.at + n.0 as usize] = p.0 + 1;
+    Some((p, more))
 }
 
 // One turn on the frame above `top` others: it is dropped if its node is lifted; else the next argument gets a frame above it; else
-// its node is lifted and it is dropped.
+// its node is lifted and it is dropped. How many frames there are then, and the store; none where the pattern words have no room.
 fn advance(
     pack: &[u8],
     work: &mut [u32],
@@ -120,7 +101,7 @@ fn advance(
     l: Lifted,
     st: Store,
     top: usize,
-) -> Turn
+) -> Option<(usize, Store)>
     requires { Running pack.now work.old words.old c l st (suc top) }
     ensures { Advances pack.now work.old words.old work.new words.new c l st top result }
 {
@@ -128,17 +109,15 @@ fn advance(
     let n = Ground(work[at]);
     let taken = work[at + Frame::TAKEN];
     if passes(work, l, n.0 as usize, taken as usize) {
-        return Turn::On(top, st);
+        return Some((top, st));
     }
     if (taken as usize) < node_arity(pack, work, c, n) {
         let a = node_argument(pack, work, c, n, taken as usize);
         enter(work, at, taken, a.0);
-        return Turn::On(top + 2, st);
+        return Some((top + 2, st));
     }
-    match finish(pack, work, words, c, l, st, n) {
-        Interned::Id(_, more) => Turn::On(top, more),
-        Interned::Short => Turn::Short,
-    }
+    let (_, more) = finish(pack, work, words, c, l, st, n)?;
+    Some((top, more))
 }
 
 // The pattern of ground node `n`, and the store that has it; or that there is no room for it.
@@ -150,7 +129,7 @@ pub fn lift(
     l: Lifted,
     st: Store,
     n: Ground,
-) -> Interned
+) -> Option<(Pattern, Store)>
     requires { Lifts pack.now work.old words.old c l st × (n.0 < l.nodes) }
     ensures { Answers pack.now work.old words.old work.new words.new c l st n.0 result }
 {
@@ -160,16 +139,7 @@ pub fn lift(
     let mut top: usize = 1;
     let mut grown = st;
     while 0 < top {
-        match advance(pack, work, words, c, l, grown, top - 1) {
-            Turn::On(left, more) => {
-                top = left;
-                grown = more;
-            }
-            Turn::Short => {
-                return Interned::Short;
-            }
-        }
+        (top, grown) = advance(pack, work, words, c, l, grown, top - 1)?;
     }
-    let at = l.at + n.0 as usize;
-    Interned::Id(Pattern(work[at] - 1), grown)
+    Some((Pattern(work[l.at + n.0 as usize] - 1), grown))
 }

@@ -1,4 +1,5 @@
 -- A root that is read back gets its pattern's word: then the words say the state with the root read back.
+use Rattle.std.specs.Prelude.{Some, None}
 use Rattle.std.specs.Prelude.{◌≡◌, refl, Bool, true, false, ◌||◌, eqb, length, set}
 use Rattle.std.proofs.Math.Path.{sym, ap}
 use Rattle.std.proofs.Common.{ap₂, ◌∙◌, arith, ne_eqb}
@@ -27,7 +28,6 @@ use Rattle.term_lift.specs.declared.lift.Lifted.{Lifted}
 use Rattle.graph.specs.declared.graph.Graph.{Graph as Counts}
 use Rattle.graph.specs.Cells.{rows_end}
 use Rattle.term_readback.specs.declared.table.Table.{Table}
-use Rattle.term_readback.specs.declared.root.Resolved.TheVariants as read
 use Rattle.term_readback.specs.Words.{values_at, patterns_at, numbers_at, table_in, marks_in, Holding}
 use Rattle.term_lift.specs.Kept.{number_fits}
 use Rattle.term_readback.specs.Moved.{table-set, table_long, framed_then}
@@ -139,11 +139,11 @@ module _ (bytes work words cells : List ℕ) (c : Catalog) (l : Lifted) (t : Tab
 
   module _ (K : Opening bytes work words cells c l t st g n everyone x Any) (work' words' : List ℕ) where
     -- there is no room
-    pub notes_short : Gives bytes work words work' words' cells c l t st g n everyone x Any read.Short → Notes bytes work words work' words' cells c l t st g n everyone x read.Short
+    pub notes_short : Gives bytes work words work' words' cells c l t st g n everyone x Any None → Notes bytes work words work' words' cells c l t st g n everyone x None
     unfolding read_root
     notes_short G = (G.0, λ P h vs s H O. G.1 P h vs s H O tt)
 
-    module _ (p : Pattern) (st' : Store) (n' : ℕ) (G : Gives bytes work words work' words' cells c l t st g n everyone x Any (read.Read p st' n')) where
+    module _ (p : Pattern) (st' : Store) (n' : ℕ) (G : Gives bytes work words work' words' cells c l t st g n everyone x Any (Some (p, st', n'))) where
       -- what is known of it
       given : Given bytes work work' words' cells c l t st' g n n' p.0 K.pack K.graph K.values (reads_as K.pack K.graph K.values everyone x K.state)
       given = G.2 K.pack K.graph K.values K.state K.holding K.opened tt
@@ -153,7 +153,7 @@ module _ (bytes work words cells : List ℕ) (c : Catalog) (l : Lifted) (t : Tab
       notes_small = number_fits (index_in work' l) words' st' p.0 given.lies.lifts.laid.index given.within
 
       -- it is put down
-      pub notes_read : Notes bytes work words (set work' (t.at + (patterns_at cells + x)) (p.0 + 1)) words' cells c l t st g n everyone x (read.Read p st' n')
+      pub notes_read : Notes bytes work words (set work' (t.at + (patterns_at cells + x)) (p.0 + 1)) words' cells c l t st g n everyone x (Some (p, st', n'))
       notes_read =
           let i = inside K.pack K.graph K.values K.state K.holding K.opened work' words' st' n' p.0 given in (
             framed_then cells work work' (set work' (t.at + (patterns_at cells + x)) (p.0 + 1)) l t G.0 (framed_set bytes work' words' cells c l t st' g n' everyone x K.pack K.graph K.values given.lies (patterns_at cells + x) (p.0 + 1) (omega (arith, i.0, i.1))),

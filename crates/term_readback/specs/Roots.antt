@@ -1,4 +1,5 @@
 -- One root read back: what is asked for it, and what each way of it answers.
+use Rattle.std.specs.Prelude.{Option, Some, None}
 use Rattle.std.specs.Prelude.{◌≡◌, Bool, true, false, ◌||◌, List, ℕ, suc, ◌≤◌, ◌<◌, length, get_or}
 use Rattle.std.proofs.Math.Option.{none}
 use Rattle.definition.specs.Pack.{Pack}
@@ -17,9 +18,8 @@ use Rattle.term_lift.specs.declared.lift.Lifted.{Lifted}
 use Rattle.graph.specs.declared.graph.Graph.{Graph as Counts}
 use Rattle.graph.specs.Cells.{rows_end}
 use Rattle.term_readback.specs.declared.table.Table.{Table}
-use Rattle.term_readback.specs.declared.root.Resolved.{Resolved}
-use Rattle.term_readback.specs.declared.root.Resolved.TheVariants.{Read, Short}
 use Rattle.term_readback.specs.Words.{values_at, numbers_at, table_in, Lies, Holding, Framed}
+use Rattle.base.specs.declared.id.Pattern.{Pattern}
 
 -- a root that was not read back while its arguments' roots were
 pub record Open (h : Graph) (s : Resolving) (x : ℕ) : Type 0 where
@@ -73,12 +73,12 @@ pub record Given (bytes work work' words' cells : List ℕ) (c : Catalog) (l : L
   pub count : n' ≤ suc n
 
 -- what is answered but for the pattern's word
-abbrev pub Gives : List ℕ → List ℕ → List ℕ → List ℕ → List ℕ → List ℕ → Catalog → Lifted → Table → Store → Counts → ℕ → Bool → ℕ → (Graph → Type 0) → Resolved → Type 0
-Gives bytes work words work' words' cells c l t st g n everyone x Q (Read p st' n') =
+abbrev pub Gives : List ℕ → List ℕ → List ℕ → List ℕ → List ℕ → List ℕ → Catalog → Lifted → Table → Store → Counts → ℕ → Bool → ℕ → (Graph → Type 0) → Option (Pattern × Store × ℕ) → Type 0
+Gives bytes work words work' words' cells c l t st g n everyone x Q (Some (p, st', n')) =
     Framed cells work work' l t
     × (words' ≡ written (nodes words' st') words)
     × ((P : Pack) (h : Graph) (vs : List Bound) (s : Resolving) → Holding bytes work words cells c l t st g n everyone P h vs s → Open h s x → Q h → Given bytes work work' words' cells c l t st' g n n' p.0 P h vs (reads_as P h vs everyone x s))
-Gives bytes work words work' words' cells c l t st g n everyone x Q Short =
+Gives bytes work words work' words' cells c l t st g n everyone x Q None =
     Framed cells work work' l t
     × ((P : Pack) (h : Graph) (vs : List Bound) (s : Resolving) → Holding bytes work words cells c l t st g n everyone P h vs s → Open h s x → Q h → length words < length (pattern_words (reads_as P h vs everyone x s).state.store))
 
@@ -91,7 +91,7 @@ pub record Naming (work words cells : List ℕ) (l : Lifted) (t : Table) (st : S
   pub opening : Opening bytes work words cells catalog l t st g n everyone x (Named everyone x)
 
 -- it is
-abbrev pub Names : List ℕ → List ℕ → List ℕ → List ℕ → List ℕ → Lifted → Table → Store → Counts → ℕ → ℕ → Resolved → Type 0
+abbrev pub Names : List ℕ → List ℕ → List ℕ → List ℕ → List ℕ → Lifted → Table → Store → Counts → ℕ → ℕ → Option (Pattern × Store × ℕ) → Type 0
 Names work words work' words' cells l t st g n x r = (bytes : List ℕ) (c : Catalog) (everyone : Bool) → Opening bytes work words cells c l t st g n everyone x (Named everyone x)
     → Gives bytes work words work' words' cells c l t st g n everyone x (Named everyone x) r
 
@@ -102,7 +102,7 @@ pub record Valuing (bytes work words cells : List ℕ) (c : Catalog) (l : Lifted
   pub opening : Opening bytes work words cells c l t st counts n everyone x (Fixed everyone x)
 
 -- it is
-abbrev pub Values : List ℕ → List ℕ → List ℕ → List ℕ → List ℕ → List ℕ → Catalog → Lifted → Table → Store → ℕ → ℕ → Resolved → Type 0
+abbrev pub Values : List ℕ → List ℕ → List ℕ → List ℕ → List ℕ → List ℕ → Catalog → Lifted → Table → Store → ℕ → ℕ → Option (Pattern × Store × ℕ) → Type 0
 Values bytes work words work' words' cells c l t st n x r = (g : Counts) (everyone : Bool) → Opening bytes work words cells c l t st g n everyone x (Fixed everyone x)
     → Gives bytes work words work' words' cells c l t st g n everyone x (Fixed everyone x) r
 
@@ -114,17 +114,17 @@ pub record Applying (work words cells : List ℕ) (l : Lifted) (t : Table) (st :
   pub opening : Opening bytes work words cells catalog l t st g n everyone x (Applied x)
 
 -- it is read back
-abbrev pub Applies : List ℕ → List ℕ → List ℕ → List ℕ → List ℕ → Lifted → Table → Store → Counts → ℕ → ℕ → Resolved → Type 0
+abbrev pub Applies : List ℕ → List ℕ → List ℕ → List ℕ → List ℕ → Lifted → Table → Store → Counts → ℕ → ℕ → Option (Pattern × Store × ℕ) → Type 0
 Applies work words work' words' cells l t st g n x r = (bytes : List ℕ) (c : Catalog) (everyone : Bool) → Opening bytes work words cells c l t st g n everyone x (Applied x)
     → Gives bytes work words work' words' cells c l t st g n everyone x (Applied x) r
 
 -- what `read_root` answers: the state with the root read back, the stack as it was; or short
-abbrev pub Notes : List ℕ → List ℕ → List ℕ → List ℕ → List ℕ → List ℕ → Catalog → Lifted → Table → Store → Counts → ℕ → Bool → ℕ → Resolved → Type 0
-Notes bytes work words work' words' cells c l t st g n everyone x (Read p st' n') =
+abbrev pub Notes : List ℕ → List ℕ → List ℕ → List ℕ → List ℕ → List ℕ → Catalog → Lifted → Table → Store → Counts → ℕ → Bool → ℕ → Option (Pattern × Store × ℕ) → Type 0
+Notes bytes work words work' words' cells c l t st g n everyone x (Some (p, st', n')) =
     Framed cells work work' l t
     × (words' ≡ written (nodes words' st') words)
     × ((P : Pack) (h : Graph) (vs : List Bound) (s : Resolving) → Holding bytes work words cells c l t st g n everyone P h vs s → Open h s x
     → Holding bytes work' words' cells c l t st' g n' everyone P h vs (read_root P h vs everyone x s) × ((i : ℕ) → rows_end cells ≤ i → i < values_at cells → get_or (table_in t work') i 0 ≡ get_or (table_in t work) i 0))
-Notes bytes work words work' words' cells c l t st g n everyone x Short =
+Notes bytes work words work' words' cells c l t st g n everyone x None =
     Framed cells work work' l t
     × ((P : Pack) (h : Graph) (vs : List Bound) (s : Resolving) → Holding bytes work words cells c l t st g n everyone P h vs s → Open h s x → length words < length (pattern_words (read_root P h vs everyone x s).state.store))

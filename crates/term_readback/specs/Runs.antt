@@ -1,4 +1,5 @@
 -- The loop: what is left of the stack gives the whole walk, and so what `resolve` of the node gives.
+use Rattle.std.specs.Prelude.{Some, None}
 use Rattle.std.specs.Prelude.{◌≡◌, Bool, true, ℕ, suc, ◌+◌, ◌*◌, ◌-◌, ◌≤◌, ◌<◌, length, get_or}
 use Rattle.std.proofs.Math.Path.{sym, subst}
 use Rattle.std.proofs.Common.{ap, ◌∙◌, arith}
@@ -25,7 +26,6 @@ use Rattle.term_lift.specs.declared.lift.Lifted.{Lifted}
 use Rattle.graph.specs.declared.graph.Graph.{Graph as Counts}
 use Rattle.graph.specs.Cells.{rows_end}
 use Rattle.term_readback.specs.declared.table.Table.{Table}
-use Rattle.term_readback.specs.declared.resolve.Turn.TheVariants as turns
 use Rattle.term_readback.specs.Words.{patterns_at, table_in, Holding, Ready, Framed}
 use Rattle.term_readback.specs.Moved.{nodes-most, framed_then}
 use Rattle.term_readback.specs.Asked.{graph_long}
@@ -105,7 +105,7 @@ module _ (bytes work₀ words₀ cells : List ℕ) (c : Catalog) (l : Lifted) (t
       turn_more = subst (λ (a : List Node). Grows a w.state.state.store) R.holding.says.store (turn_grows P h vs everyone (frame (get_or (table_in t work) (rows_end cells + 2 * top) 0) (get_or (table_in t work) (rows_end cells + 2 * top + 1) 0)) (frames_of cells t work top) s)
 
     -- one turn more
-    module _ (work' words' : List ℕ) (k : ℕ) (st' : Store) (n' : ℕ) (A : Advances bytes work words work' words' cells c l t st g n everyone top (turns.On k st' n')) where
+    module _ (work' words' : List ℕ) (k : ℕ) (st' : Store) (n' : ℕ) (A : Advances bytes work words work' words' cells c l t st g n everyone top (Some (k, st', n'))) where
       -- the stack goes on
       going_on : (P : Pack) (h : Graph) (C : Sane h) (vs : List Bound) (s : Resolving) (R : Running bytes work words cells c l t st g n everyone P h C vs s (suc top)) → Running bytes work' words' cells c l t st' g n' everyone P h C vs (w P h C vs s R).state k
       going_on P h C vs s R =
@@ -149,7 +149,7 @@ module _ (bytes work₀ words₀ cells : List ℕ) (c : Catalog) (l : Lifted) (t
           omega (arith, x, y, (turn_on P h T.sane T.values T.state R).measure)
 
     -- there is no room for a node
-    pub walks_short : (work' words' : List ℕ) → length words ≡ length words₀ → Advances bytes work words work' words' cells c l t st g n everyone top turns.Short → Shorts bytes work₀ words₀ work' cells c l t st₀ g n₀ everyone r
+    pub walks_short : (work' words' : List ℕ) → length words ≡ length words₀ → Advances bytes work words work' words' cells c l t st g n everyone top None → Shorts bytes work₀ words₀ work' cells c l t st₀ g n₀ everyone r
     walks_short work' words' e A = (
       framed_then cells work₀ work work' l t W.framed A.0,
       λ P h vs s₀ H₀ b.

@@ -1,4 +1,5 @@
 -- The walk's stack: what is asked for a turn on it, and what is answered.
+use Rattle.std.specs.Prelude.{Option, Some, None}
 use Rattle.std.specs.Prelude.{◌≡◌, Bool, false, List, [], ◌∷◌, ℕ, suc, ◌+◌, ◌*◌, ◌≤◌, ◌<◌, length, get_or}
 use Rattle.definition.specs.Pack.{Pack}
 use Rattle.definition.specs.Verdict.{Bound}
@@ -20,12 +21,9 @@ use Rattle.term_lift.specs.declared.lift.Lifted.{Lifted}
 use Rattle.graph.specs.declared.graph.Graph.{Graph as Counts}
 use Rattle.graph.specs.Cells.{rows_end, Shows}
 use Rattle.term_readback.specs.declared.table.Table.{Table}
-use Rattle.term_readback.specs.declared.root.Resolved.{Resolved}
-use Rattle.term_readback.specs.declared.root.Resolved.TheVariants as read
-use Rattle.term_readback.specs.declared.resolve.Turn.{Turn}
-use Rattle.term_readback.specs.declared.resolve.Turn.TheVariants as turns
 use Rattle.term_readback.specs.Words.{patterns_at, table_in, Grounded, Lies, Holding, Framed, Moves}
 use Rattle.term_readback.specs.Asked.{Arguing}
+use Rattle.base.specs.declared.id.Pattern.{Pattern}
 
 -- a forest whose nodes have nodes as arguments, without circles
 pub record Sane (h : Graph) : Type 0 where
@@ -62,13 +60,13 @@ unfolding turn arg_roots is_read_whole read_root
 turn_of P h vs everyone fs s = turn (arg_roots h) is_read_whole (read_root P h vs everyone) fs s
 
 -- what `advance` answers: the machine's stack and state after the turn; or short
-abbrev pub Advances : List ℕ → List ℕ → List ℕ → List ℕ → List ℕ → List ℕ → Catalog → Lifted → Table → Store → Counts → ℕ → Bool → ℕ → Turn → Type 0
-Advances bytes work words work' words' cells c l t st g n everyone top (turns.On k st' n') =
+abbrev pub Advances : List ℕ → List ℕ → List ℕ → List ℕ → List ℕ → List ℕ → Catalog → Lifted → Table → Store → Counts → ℕ → Bool → ℕ → Option (ℕ × Store × ℕ) → Type 0
+Advances bytes work words work' words' cells c l t st g n everyone top (Some (k, st', n')) =
     Framed cells work work' l t
     × (words' ≡ written (nodes words' st') words)
     × ((P : Pack) (h : Graph) (C : Sane h) (vs : List Bound) (s : Resolving) → Running bytes work words cells c l t st g n everyone P h C vs s (suc top)
     → Holding bytes work' words' cells c l t st' g n' everyone P h vs (turn_of P h vs everyone (frames_of cells t work (suc top)) s).state × (frames_of cells t work' k ≡ (turn_of P h vs everyone (frames_of cells t work (suc top)) s).stack))
-Advances bytes work words work' words' cells c l t st g n everyone top turns.Short =
+Advances bytes work words work' words' cells c l t st g n everyone top None =
     Framed cells work work' l t
     × ((P : Pack) (h : Graph) (C : Sane h) (vs : List Bound) (s : Resolving) → Running bytes work words cells c l t st g n everyone P h C vs s (suc top)
     → length words < length (pattern_words (turn_of P h vs everyone (frames_of cells t work (suc top)) s).state.state.store))
@@ -101,13 +99,13 @@ pub record Clears (work work' cells : List ℕ) (t : Table) (g : Counts) : Type 
       → Grounded everyone l → Holding bytes work' words cells c l t st g 0 everyone P h vs (resolving (numbered_as [] (nodes words st)) [])
 
 -- what `resolve` answers: the definition's pattern and state, with the store's words written; or short, when these words are more than there are
-abbrev pub Answers : List ℕ → List ℕ → List ℕ → List ℕ → List ℕ → List ℕ → Catalog → Lifted → Table → Store → Counts → ℕ → Bool → ℕ → Resolved → Type 0
-Answers bytes work words work' words' cells c l t st g n everyone x (read.Read p st' n') =
+abbrev pub Answers : List ℕ → List ℕ → List ℕ → List ℕ → List ℕ → List ℕ → Catalog → Lifted → Table → Store → Counts → ℕ → Bool → ℕ → Option (Pattern × Store × ℕ) → Type 0
+Answers bytes work words work' words' cells c l t st g n everyone x (Some (p, st', n')) =
     Framed cells work work' l t
     × (words' ≡ written (nodes words' st') words)
     × ((P : Pack) (h : Graph) (vs : List Bound) (s : Resolving) → Holding bytes work words cells c l t st g n everyone P h vs s
     → (s' : Resolving) × Holding bytes work' words' cells c l t st' g n' everyone P h vs s' × (resolve (suc (length h)) P h vs everyone (x ∷ []) s.state ≡ resolved_as (p.0 ∷ []) s'.state))
-Answers bytes work words work' words' cells c l t st g n everyone x read.Short =
+Answers bytes work words work' words' cells c l t st g n everyone x None =
     Framed cells work work' l t
     × ((P : Pack) (h : Graph) (vs : List Bound) (s : Resolving) → Holding bytes work words cells c l t st g n everyone P h vs s
     → length words < length (pattern_words (resolve (suc (length h)) P h vs everyone (x ∷ []) s.state).state.store))

@@ -1,4 +1,5 @@
 -- The first frame on the stack: what the loop comes to from there is what is answered from the start.
+use Rattle.std.specs.Prelude.{Some, None}
 use Rattle.std.specs.Prelude.{◌≡◌, Bool, List, [], ◌∷◌, ℕ, suc, ◌<◌, length}
 use Rattle.std.proofs.Common.{sym, ap, ◌∙◌, subst, arith}
 use Rattle.definition.specs.Pack.{Node, Pack}
@@ -20,7 +21,6 @@ use Rattle.pack_tables.specs.declared.catalog.Catalog.{Catalog}
 use Rattle.term_lift.specs.declared.lift.Lifted.{Lifted}
 use Rattle.graph.specs.declared.graph.Graph.{Graph as Counts}
 use Rattle.term_readback.specs.declared.table.Table.{Table}
-use Rattle.term_readback.specs.declared.root.Resolved.TheVariants as read
 use Rattle.term_readback.specs.Words.{table_in, Holding, Ready, Framed}
 use Rattle.term_readback.specs.Moved.{framed_none, framed_then, framed_moves, holding_moves}
 use Rattle.term_readback.specs.Asked.{Asking, graph_long}
@@ -89,14 +89,14 @@ module _ (bytes work words cells : List ℕ) (c : Catalog) (l : Lifted) (t : Tab
         ∙ ap (λ (y : ℕ). let u = walk (arg_roots h) is_read_whole (read_root P h vs everyone) (length h) (y ∷ []) s in resolved_as (copied u.memo y ∷ []) u.state) (sym (B.is h S.shows))
 
     -- there is no room
-    pub first_short : (work' words' : List ℕ) → Shorts bytes first words work' cells c l t st g n everyone r → Answers bytes work words work' words' cells c l t st g n everyone x read.Short
+    pub first_short : (work' words' : List ℕ) → Shorts bytes first words work' cells c l t st g n everyone r → Answers bytes work words work' words' cells c l t st g n everyone x None
     first_short work' words' A = (
       framed_then cells work first work' l t first_framed A.0,
       λ P h vs s H. subst (λ (a : List Node). length words < length (pattern_words a)) (sym (ap (λ (o : Resolved). o.state.store) (first_is P h vs s H))) (A.1 P h vs s (held P h vs s H) (first-rank P h vs s H)),
     )
 
     -- the pattern was read
-    pub first_done : (work' words' : List ℕ) (st' : Store) (n' : ℕ) (p : Pattern) → Reads bytes first words work' words' cells c l t st st' g n n' everyone r p.0 → Answers bytes work words work' words' cells c l t st g n everyone x (read.Read p st' n')
+    pub first_done : (work' words' : List ℕ) (st' : Store) (n' : ℕ) (p : Pattern) → Reads bytes first words work' words' cells c l t st st' g n n' everyone r p.0 → Answers bytes work words work' words' cells c l t st g n everyone x (Some (p, st', n'))
     first_done work' words' st' n' p A = (
       framed_then cells work first work' l t first_framed A.0,
       A.1,

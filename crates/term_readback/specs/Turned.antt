@@ -1,4 +1,5 @@
 -- One turn as the code takes it, for the pack, graph, values and state that there are.
+use Rattle.std.specs.Prelude.{Some, None}
 use Rattle.std.specs.Prelude.{◌≡◌, refl, Bool, true, false, List, ℕ, suc, ◌+◌, ◌*◌, ◌≤◌, ◌<◌, eqb, ltb, length, get_or}
 use Rattle.std.proofs.Common.{sym, ap, ap₂, ◌∙◌, subst, arith}
 use Rattle.definition.specs.Test.{◌and◌}
@@ -15,8 +16,6 @@ use Rattle.term_lift.specs.declared.lift.Lifted.{Lifted}
 use Rattle.graph.specs.declared.graph.Graph.{Graph as Counts}
 use Rattle.graph.specs.Cells.{rows_end}
 use Rattle.term_readback.specs.declared.table.Table.{Table}
-use Rattle.term_readback.specs.declared.root.Resolved.TheVariants as read
-use Rattle.term_readback.specs.declared.resolve.Turn.TheVariants as turns
 use Rattle.term_readback.specs.Words.{patterns_at, table_in, Holding}
 use Rattle.term_readback.specs.Moved.{framed_none, framed_moves}
 use Rattle.term_readback.specs.Asked.{Asking, CountOf}
@@ -75,7 +74,7 @@ module _ (bytes work words cells : List ℕ) (c : Catalog) (l : Lifted) (t : Tab
 
     module _ (b : Bool) (e : b ≡ (eqb taken 0 and ltb 0 (get_or table (patterns_at cells + x) 0))) where
       -- the frame is dropped
-      pub turn_passed : b ≡ true → Advances bytes work words work words cells c l t st g n everyone top (turns.On top st n)
+      pub turn_passed : b ≡ true → Advances bytes work words work words cells c l t st g n everyone top (Some (top, st, n))
       turn_passed q = (
         framed_none cells work l t,
         still,
@@ -96,7 +95,7 @@ module _ (bytes work words cells : List ℕ) (c : Catalog) (l : Lifted) (t : Tab
         }
 
         -- it has one
-        pub turn_entered : (m : taken < k) (work' : List ℕ) → Enters cells work work' t g top x taken → Advances bytes work words work' words cells c l t st g n everyone top (turns.On (top + 2) st n)
+        pub turn_entered : (m : taken < k) (work' : List ℕ) → Enters cells work work' t g top x taken → Advances bytes work words work' words cells c l t st g n everyone top (Some ((top + 2), st, n))
         turn_entered m work' E = (
           framed_moves bytes work words cells c l t st g work' E.moves T.pack T.graph T.values T.running.holding.lies,
           still,
@@ -111,11 +110,11 @@ module _ (bytes work words cells : List ℕ) (c : Catalog) (l : Lifted) (t : Tab
 
           module _ (work' words' : List ℕ) where
             -- there is no room for it
-            pub turn_short : Notes bytes work words work' words' cells c l t st g n everyone x read.Short → Advances bytes work words work' words' cells c l t st g n everyone top turns.Short
+            pub turn_short : Notes bytes work words work' words' cells c l t st g n everyone x None → Advances bytes work words work' words' cells c l t st g n everyone top None
             turn_short S = (S.0, λ P h C vs s R. rw (finishes bytes work words cells c l t st g n everyone top P h C vs s R b e q k N m) (S.1 P h vs s R.holding (opens bytes work words cells c l t st g n everyone top P h C vs s R b e q k N m)))
 
             -- it was
-            pub turn_finished : (p : Pattern) (st' : Store) (n' : ℕ) → Notes bytes work words work' words' cells c l t st g n everyone x (read.Read p st' n') → Advances bytes work words work' words' cells c l t st g n everyone top (turns.On top st' n')
+            pub turn_finished : (p : Pattern) (st' : Store) (n' : ℕ) → Notes bytes work words work' words' cells c l t st g n everyone x (Some (p, st', n')) → Advances bytes work words work' words' cells c l t st g n everyone top (Some (top, st', n'))
             turn_finished p st' n' S = (
               S.0,
               S.1,
@@ -147,7 +146,7 @@ module _ (bytes work words cells : List ℕ) (c : Catalog) (l : Lifted) (t : Tab
         told = e ∙ ap₂ (λ (z v : ℕ). eqb v 0 and ltb 0 (get_or table (patterns_at cells + z) 0)) ey eu
 
         -- it is
-        pub at_passed : b ≡ true → Advances bytes work words work words cells c l t st g n everyone top (turns.On top st n)
+        pub at_passed : b ≡ true → Advances bytes work words work words cells c l t st g n everyone top (Some (top, st, n))
         at_passed q = turn_passed b told q
 
         module _ (q : b ≡ false) (k : ℕ) (N : CountOf cells work t g y k) where
@@ -160,7 +159,7 @@ module _ (bytes work words cells : List ℕ) (c : Catalog) (l : Lifted) (t : Tab
           at-entering m = subst (λ (z : ℕ). Entering cells work t g top z u) (sym ey) (subst (λ (v : ℕ). Entering cells work t g top x v) (sym eu) (turn-entering b told q k counted (omega (arith, eu))))
 
           -- it has one
-          pub at_entered : u < k → (work' : List ℕ) → Enters cells work work' t g top y u → Advances bytes work words work' words cells c l t st g n everyone top (turns.On (top + 2) st n)
+          pub at_entered : u < k → (work' : List ℕ) → Enters cells work work' t g top y u → Advances bytes work words work' words cells c l t st g n everyone top (Some ((top + 2), st, n))
           at_entered m work' E = turn_entered b told q k counted (omega (arith, eu)) work' (subst (λ (z : ℕ). Enters cells work work' t g top z taken) ey (subst (λ (v : ℕ). Enters cells work work' t g top y v) eu E))
 
           -- none is left
@@ -174,9 +173,9 @@ module _ (bytes work words cells : List ℕ) (c : Catalog) (l : Lifted) (t : Tab
             at-opening = subst (λ (z : ℕ). Opening bytes work words cells c l t st g n everyone z Any) (sym ey) (turn-opening b told q k counted few)
 
             -- there is no room for it
-            pub at_short : (work' words' : List ℕ) → Notes bytes work words work' words' cells c l t st g n everyone y read.Short → Advances bytes work words work' words' cells c l t st g n everyone top turns.Short
-            at_short work' words' S = turn_short b told q k counted few work' words' (subst (λ (z : ℕ). Notes bytes work words work' words' cells c l t st g n everyone z read.Short) ey S)
+            pub at_short : (work' words' : List ℕ) → Notes bytes work words work' words' cells c l t st g n everyone y None → Advances bytes work words work' words' cells c l t st g n everyone top None
+            at_short work' words' S = turn_short b told q k counted few work' words' (subst (λ (z : ℕ). Notes bytes work words work' words' cells c l t st g n everyone z None) ey S)
 
             -- it was
-            pub at_finished : (work' words' : List ℕ) (p : Pattern) (st' : Store) (n' : ℕ) → Notes bytes work words work' words' cells c l t st g n everyone y (read.Read p st' n') → Advances bytes work words work' words' cells c l t st g n everyone top (turns.On top st' n')
-            at_finished work' words' p st' n' S = turn_finished b told q k counted few work' words' p st' n' (subst (λ (z : ℕ). Notes bytes work words work' words' cells c l t st g n everyone z (read.Read p st' n')) ey S)
+            pub at_finished : (work' words' : List ℕ) (p : Pattern) (st' : Store) (n' : ℕ) → Notes bytes work words work' words' cells c l t st g n everyone y (Some (p, st', n')) → Advances bytes work words work' words' cells c l t st g n everyone top (Some (top, st', n'))
+            at_finished work' words' p st' n' S = turn_finished b told q k counted few work' words' p st' n' (subst (λ (z : ℕ). Notes bytes work words work' words' cells c l t st g n everyone z (Some (p, st', n'))) ey S)

@@ -1,4 +1,5 @@
 -- What each way of reading a root back answers: by a number, by a value, over arguments.
+use Rattle.std.specs.Prelude.{Option, Some, None}
 use Rattle.std.specs.Prelude.{◌≡◌, refl, Bool, true, List, [], ◌∷◌, ◌++◌, map, ℕ, zero, suc, ◌+◌, ◌-◌, ◌≤◌, ◌<◌, length, get_or, set, take, drop}
 use Rattle.std.proofs.Common.{sym, ap, ap₂, ◌∙◌, subst, arith, length-set, get_or-set_same, get_or-set_other}
 use Rattle.std.proofs.lemmas.List.{length-map}
@@ -18,7 +19,6 @@ use Rattle.base.specs.Part.{part, part_at, part-set-behind, part-more}
 use Rattle.store.specs.Words.{node_with}
 use Rattle.store.specs.Stored.{nodes}
 use Rattle.store.specs.declared.nodes.Store.{Store}
-use Rattle.store.specs.declared.nodes.Interned.TheVariants.{Id, Short}
 use Rattle.base.specs.declared.id.Pattern.{Pattern}
 use Rattle.pack_tables.specs.declared.catalog.Catalog.{Catalog}
 use Rattle.term_lift.specs.Lifts.{Apart, Answers}
@@ -27,8 +27,6 @@ use Rattle.graph.specs.declared.graph.Graph.{Graph as Counts}
 use Rattle.graph.specs.Cells.{Shows}
 use Rattle.graph.specs.Nodes.{SortOf}
 use Rattle.term_readback.specs.declared.table.Table.{Table}
-use Rattle.term_readback.specs.declared.root.Resolved.{Resolved}
-use Rattle.term_readback.specs.declared.root.Resolved.TheVariants as read
 use Rattle.term_readback.specs.Words.{values_at, patterns_at, numbers_at, table_end, table_in, Lies, Holding, Framed}
 use Rattle.term_lift.specs.Kept.{Indexed, Interns}
 use Rattle.term_readback.specs.Moved.{table-set, table_long, framed_moves, holding_moves, table_apart, lies_apart, framed_apart, framed_then}
@@ -79,15 +77,15 @@ module _ (bytes work words cells : List ℕ) (c : Catalog) (l : Lifted) (t : Tab
     opening_so R q = record { pack = K.pack; graph = K.graph; values = K.values; state = K.state; holding = K.holding; opened = K.opened; asked = q }
 
     -- and answered as of that kind
-    pub gives_so : (R : Graph → Type 0) → ((h : Graph) → Shows cells (table_in t work) g h → Q h → R h) → (work' words' : List ℕ) (r : Resolved)
+    pub gives_so : (R : Graph → Type 0) → ((h : Graph) → Shows cells (table_in t work) g h → Q h → R h) → (work' words' : List ℕ) (r : Option (Pattern × Store × ℕ))
         → Gives bytes work words work' words' cells c l t st g n everyone x R r → Gives bytes work words work' words' cells c l t st g n everyone x Q r
-    gives_so R f work' words' (read.Read p st' n') G = (G.0, G.1, λ P h vs s H O q. G.2 P h vs s H O (f h H.lies.stands.shows q))
-    gives_so R f work' words' read.Short G = (G.0, λ P h vs s H O q. G.1 P h vs s H O (f h H.lies.stands.shows q))
+    gives_so R f work' words' (Some (p, st', n')) G = (G.0, G.1, λ P h vs s H O q. G.2 P h vs s H O (f h H.lies.stands.shows q))
+    gives_so R f work' words' None G = (G.0, λ P h vs s H O q. G.1 P h vs s H O (f h H.lies.stands.shows q))
 
   -- ---- by a number
   module _ (K : Opening bytes work words cells c l t st g n everyone x (Named everyone x)) (key : List ℕ) (sort : ℕ) (q : SortOf cells (table_in t work) g x sort) (k : key ≡ variable_head ∷ n ∷ sort ∷ []) (work₁ words' : List ℕ) where
     -- there is no room for it
-    pub number_short : Interns work words work₁ words' l st key Short → Gives bytes work words work₁ words' cells c l t st g n everyone x (Named everyone x) read.Short
+    pub number_short : Interns work words work₁ words' l st key None → Gives bytes work words work₁ words' cells c l t st g n everyone x (Named everyone x) None
     number_short A = (
       framed_apart bytes work words cells c l t st g K.pack K.graph K.values K.holding.lies work₁ words' st A.1,
       λ P h vs s H O N.
@@ -96,7 +94,7 @@ module _ (bytes work words cells : List ℕ) (c : Catalog) (l : Lifted) (t : Tab
           subst (λ (u : List Node). length words < length (pattern_words u)) (sym (ap (λ (y : ResolvedOne). y.state.store) e)) A.0,
     )
 
-    module _ (p : Pattern) (st' : Store) (A : Interns work words work₁ words' l st key (Id p st')) where
+    module _ (p : Pattern) (st' : Store) (A : Interns work words work₁ words' l st key (Some (p, st'))) where
       -- all stands where it stood
       lies₁ : (P : Pack) (h : Graph) (vs : List Bound) → Lies bytes work words cells c l t st g P h vs → Lies bytes work₁ words' cells c l t st' g P h vs
       lies₁ P h vs L = lies_apart bytes work words cells c l t st g P h vs L work₁ words' st' A.3 (A.0 bytes c L.lifts)
@@ -108,7 +106,7 @@ module _ (bytes work words cells : List ℕ) (c : Catalog) (l : Lifted) (t : Tab
           (omega (arith, f.1, f.2), omega (arith, f.3, A.3.long))
 
       -- it is put down
-      pub number_gives : Gives bytes work words (set work₁ (t.at + (numbers_at cells + n)) x) words' cells c l t st g n everyone x (Named everyone x) (read.Read p st' (n + 1))
+      pub number_gives : Gives bytes work words (set work₁ (t.at + (numbers_at cells + n)) x) words' cells c l t st g n everyone x (Named everyone x) (Some (p, st', (n + 1)))
       number_gives =
           let i : ℕ = numbers_at cells + n in
           let f = opening_few (Named everyone x) K in
@@ -148,7 +146,7 @@ module _ (bytes work words cells : List ℕ) (c : Catalog) (l : Lifted) (t : Tab
 
     module _ (work' words' : List ℕ) where
       -- there is no room for it
-      pub value_short : Answers bytes work words work' words' c l st m Short → Gives bytes work words work' words' cells c l t st g n everyone x (Fixed everyone x) read.Short
+      pub value_short : Answers bytes work words work' words' c l st m None → Gives bytes work words work' words' cells c l t st g n everyone x (Fixed everyone x) None
       value_short A = (
         framed_apart bytes work words cells c l t st g K.pack K.graph K.values K.holding.lies work' words' st A.1,
         λ P h vs s H O F.
@@ -158,7 +156,7 @@ module _ (bytes work words cells : List ℕ) (c : Catalog) (l : Lifted) (t : Tab
       )
 
       -- it is lifted
-      pub value_gives : (p : Pattern) (st' : Store) → Answers bytes work words work' words' c l st m (Id p st') → Gives bytes work words work' words' cells c l t st g n everyone x (Fixed everyone x) (read.Read p st' n)
+      pub value_gives : (p : Pattern) (st' : Store) → Answers bytes work words work' words' c l st m (Some (p, st')) → Gives bytes work words work' words' cells c l t st g n everyone x (Fixed everyone x) (Some (p, st', n))
       value_gives p st' A = (
         framed_apart bytes work words cells c l t st g K.pack K.graph K.values K.holding.lies work' words' st' A.3,
         A.2,
@@ -204,7 +202,7 @@ module _ (bytes work words cells : List ℕ) (c : Catalog) (l : Lifted) (t : Tab
 
     module _ (work' words' : List ℕ) where
       -- there is no room for it
-      pub applied_short : Interns work₁ words work' words' l st (take (k - 0) (drop 0 key)) Short → Gives bytes work words work' words' cells c l t st g n everyone x (Applied x) read.Short
+      pub applied_short : Interns work₁ words work' words' l st (take (k - 0) (drop 0 key)) None → Gives bytes work words work' words' cells c l t st g n everyone x (Applied x) None
       applied_short A = (
         applied_framed work' words' st A.1,
         λ P h vs s H O v.
@@ -214,7 +212,7 @@ module _ (bytes work words cells : List ℕ) (c : Catalog) (l : Lifted) (t : Tab
       )
 
       -- it is interned
-      pub applied_gives : (p : Pattern) (st' : Store) → Interns work₁ words work' words' l st (take (k - 0) (drop 0 key)) (Id p st') → Gives bytes work words work' words' cells c l t st g n everyone x (Applied x) (read.Read p st' n)
+      pub applied_gives : (p : Pattern) (st' : Store) → Interns work₁ words work' words' l st (take (k - 0) (drop 0 key)) (Some (p, st')) → Gives bytes work words work' words' cells c l t st g n everyone x (Applied x) (Some (p, st', n))
       applied_gives p st' A = (
         applied_framed work' words' st' A.3,
         A.2,

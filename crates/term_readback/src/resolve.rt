@@ -6,21 +6,13 @@ ghost use Rattle.term_readback.specs.Asked.{Asking};
 ghost use Rattle.term_readback.specs.Stacks.{Entering, Enters, Begins, Clears};
 ghost use Rattle.term_readback.specs.AtHand.{ReadyAt, TurningAt, AdvancesAt, AnswersAt};
 
-use crate::root::{Resolved, read_root};
+use crate::root::read_root;
 use crate::table::{Reading, Table, argument_root, count, put_word, word_at};
 use base::id::{Node, Pattern};
 use base::stack::Frame;
-use buffer::zero::zero_words;
 use graph::graph::Graph;
 use graph::places::{pairs_at, patterns_at};
 use store::nodes::Store;
-
-// So many frames stand on the stack, the store as it is then, and so many variables are numbered; or there is no room for a node.
-#[derive(Clone, Copy)]
-enum Turn {
-    On(usize, Store, usize),
-    Short,
-}
 
 // Nothing was read back.
 pub fn clear(work: &mut [u32], cells: &[u32], t: Table, g: Graph)
@@ -28,8 +20,7 @@ pub fn clear(work: &mut [u32], cells: &[u32], t: Table, g: Graph)
     ensures { Clears work.old work.new cells.now t g }
 {
     let from = t.at + patterns_at(cells);
-    let end = from + g.nodes;
-    zero_words(&mut work[from..end]);
+    work[from..from + g.nodes].fill(0);
 }
 
 // Whether a frame is dropped: it is new, and its root was read back.
@@ -60,9 +51,7 @@ fn begin(work: &mut [u32], cells: &[u32], t: Table, g: Graph, x: Node) -> Node
     requires { Asking cells.now work.old t g x.0 }
     ensures { Begins cells.now work.old work.new t g x.0 result.0 }
 {
-    let a = t.at;
-    let e = t.end;
-    let r = g.find(cells, &mut work[a..e], x);
+    let r = g.find(cells, &mut work[t.at..t.end], x);
     let at = pairs_at(cells);
     put_word(work, t, at, r.0);
     put_word(work, t, at + Frame::TAKEN, 0);
@@ -70,7 +59,8 @@ fn begin(work: &mut [u32], cells: &[u32], t: Table, g: Graph, x: Node) -> Node
 }
 
 // One turn on the frame above `top` others: it is dropped if its root was read back; else the next argument's root gets a frame above
-// it; else its root is read back and it is dropped.
+// it; else its root is read back and it is dropped. How many frames there are then, the store, and how many variables are numbered; none
+// where the words have no room.
 fn advance(
     pack: &[u8],
     work: &mut [u32],
@@ -80,7 +70,7 @@ fn advance(
     st: Store,
     numbered: usize,
     top: usize,
-) -> Turn
+) -> Option<(usize, Store, usize)>
     requires { TurningAt pack.now work.old words.old cells.now s st numbered top }
     ensures { AdvancesAt pack.now work.old words.old work.new words.new cells.now s st numbered top result }
 {
@@ -88,16 +78,14 @@ fn advance(
     let x = Node(word_at(work, s.table, at));
     let taken = word_at(work, s.table, at + Frame::TAKEN);
     if passes(work, cells, s.table, x, taken) {
-        return Turn::On(top, st, numbered);
+        return Some((top, st, numbered));
     }
     if (taken as usize) < count(work, cells, s.table, s.graph, x) {
         enter(work, cells, s.table, s.graph, top, x, taken);
-        return Turn::On(top + 2, st, numbered);
+        return Some((top + 2, st, numbered));
     }
-    match read_root(pack, work, words, cells, s, st, numbered, x) {
-        Resolved::Read(_, more, n) => Turn::On(top, more, n),
-        Resolved::Short => Turn::Short,
-    }
+    let (_, more, n) = read_root(pack, work, words, cells, s, st, numbered, x)?;
+    Some((top, more, n))
 }
 
 // The pattern of node `x`, the store that has it, and how many variables are numbered then; or that there is no room for it.
@@ -110,7 +98,7 @@ pub fn resolve(
     st: Store,
     numbered: usize,
     x: Node,
-) -> Resolved
+) -> Option<(Pattern, Store, usize)>
     requires { ReadyAt pack.now work.old words.old cells.now s st numbered × (x.0 < s.graph.nodes) }
     ensures { AnswersAt pack.now work.old words.old work.new words.new cells.now s st numbered x.0 result }
 {
@@ -119,17 +107,8 @@ pub fn resolve(
     let mut grown = st;
     let mut n = numbered;
     while 0 < top {
-        match advance(pack, work, words, cells, s, grown, n, top - 1) {
-            Turn::On(left, more, m) => {
-                top = left;
-                grown = more;
-                n = m;
-            }
-            Turn::Short => {
-                return Resolved::Short;
-            }
-        }
+        (top, grown, n) = advance(pack, work, words, cells, s, grown, n, top - 1)?;
     }
     let word = word_at(work, s.table, patterns_at(cells) + r.0 as usize);
-    Resolved::Read(Pattern(word - 1), grown, n)
+    Some((Pattern(word - 1), grown, n))
 }

@@ -8,18 +8,11 @@ use base::limit::Limit;
 use graph::graph::Graph;
 use graph::places::{numbers_at, patterns_at, values_at};
 use pack_tables::catalog::Catalog;
-use store::nodes::{Interned, Store};
+use store::nodes::Store;
 use term_lift::intern::intern_key;
 use term_lift::lift::{Lifted, lift};
 
-// What was read: the pattern, the store with it, and how many variables are numbered; or that the words have no room.
-#[derive(Clone, Copy)]
-pub enum Resolved {
-    Read(Pattern, Store, usize),
-    Short,
-}
-
-// Variable `x` by the next number.
+// Variable `x` by the next number: its pattern, the store then, and how many variables are numbered; none where the words have no room.
 fn read_number(
     work: &mut [u32],
     words: &mut [u32],
@@ -30,27 +23,19 @@ fn read_number(
     g: Graph,
     numbered: usize,
     x: Node,
-) -> Resolved
+) -> Option<(Pattern, Store, usize)>
     requires { Naming work.old words.old cells.now l t st g numbered x.0 }
     ensures { Names work.old words.old work.new words.new cells.now l t st g numbered x.0 result }
 {
-    let a = t.at;
-    let e = t.end;
-    let sort = g.sort(cells, &work[a..e], x);
-    let mut key = [0; 3];
-    key[0] = Pattern::VAR;
-    key[1] = numbered as u32;
-    key[2] = sort;
-    match intern_key(work, words, l, st, &key) {
-        Interned::Id(p, more) => {
-            put_word(work, t, numbers_at(cells) + numbered, x.0);
-            Resolved::Read(p, more, numbered + 1)
-        }
-        Interned::Short => Resolved::Short,
-    }
+    let sort = g.sort(cells, &work[t.at..t.end], x);
+    let key = [Pattern::VAR, numbered as u32, sort];
+    let (p, more) = intern_key(work, words, l, st, &key)?;
+    put_word(work, t, numbers_at(cells) + numbered, x.0);
+    Some((p, more, numbered + 1))
 }
 
-// Variable `x` by its ground value; one without a value, which nothing asks for, by the first ground node.
+// Variable `x` by its ground value; one without a value, which nothing asks for, by the first ground node. None where the words have no
+// room.
 fn read_value(
     pack: &[u8],
     work: &mut [u32],
@@ -62,18 +47,16 @@ fn read_value(
     st: Store,
     numbered: usize,
     x: Node,
-) -> Resolved
+) -> Option<(Pattern, Store, usize)>
     requires { Valuing pack.now work.old words.old cells.now c l t st numbered x.0 }
     ensures { Values pack.now work.old words.old work.new words.new cells.now c l t st numbered x.0 result }
 {
     let value = said(word_at(work, t, values_at(cells) + x.0 as usize));
-    match lift(pack, work, words, c, l, st, Ground(value)) {
-        Interned::Id(p, more) => Resolved::Read(p, more, numbered),
-        Interned::Short => Resolved::Short,
-    }
+    let (p, more) = lift(pack, work, words, c, l, st, Ground(value))?;
+    Some((p, more, numbered))
 }
 
-// Variable `x`, which has no number.
+// Variable `x`, which has no number; none where the words have no room.
 fn read_variable(
     pack: &[u8],
     work: &mut [u32],
@@ -83,7 +66,7 @@ fn read_variable(
     st: Store,
     numbered: usize,
     x: Node,
-) -> Resolved
+) -> Option<(Pattern, Store, usize)>
     requires { OpeningAt pack.now work.old words.old cells.now s st numbered x.0 (Variable x.0) }
     ensures { GivesAt pack.now work.old words.old work.new words.new cells.now s st numbered x.0 (Variable x.0) result }
 {
@@ -97,7 +80,7 @@ fn read_variable(
     )
 }
 
-// Application `x` over what its arguments' roots were read back as.
+// Application `x` over what its arguments' roots were read back as; none where the words have no room.
 fn read_applied(
     work: &mut [u32],
     words: &mut [u32],
@@ -108,19 +91,17 @@ fn read_applied(
     g: Graph,
     numbered: usize,
     x: Node,
-) -> Resolved
+) -> Option<(Pattern, Store, usize)>
     requires { Applying work.old words.old cells.now l t st g numbered x.0 }
     ensures { Applies work.old words.old work.new words.new cells.now l t st g numbered x.0 result }
 {
     let mut key = [0; Limit::KEY];
     let k = key_of(work, cells, t, g, x, &mut key);
-    match intern_key(work, words, l, st, &key[0..k]) {
-        Interned::Id(p, more) => Resolved::Read(p, more, numbered),
-        Interned::Short => Resolved::Short,
-    }
+    let (p, more) = intern_key(work, words, l, st, &key[0..k])?;
+    Some((p, more, numbered))
 }
 
-// Root `x`, whichever it is.
+// Root `x`, whichever it is; none where the words have no room.
 fn read_either(
     pack: &[u8],
     work: &mut [u32],
@@ -130,13 +111,11 @@ fn read_either(
     st: Store,
     numbered: usize,
     x: Node,
-) -> Resolved
+) -> Option<(Pattern, Store, usize)>
     requires { OpeningAt pack.now work.old words.old cells.now s st numbered x.0 Any }
     ensures { GivesAt pack.now work.old words.old work.new words.new cells.now s st numbered x.0 Any result }
 {
-    let a = s.table.at;
-    let e = s.table.end;
-    if s.graph.head(cells, &work[a..e], x) == Pattern::VAR {
+    if s.graph.head(cells, &work[s.table.at..s.table.end], x) == Pattern::VAR {
         return read_variable(pack, work, words, cells, s, st, numbered, x);
     }
     read_applied(
@@ -144,7 +123,7 @@ fn read_either(
     )
 }
 
-// Root `x` is read back and has its pattern's word from then on.
+// Root `x` is read back and has its pattern's word from then on; none where the words have no room.
 pub fn read_root(
     pack: &[u8],
     work: &mut [u32],
@@ -154,15 +133,11 @@ pub fn read_root(
     st: Store,
     numbered: usize,
     x: Node,
-) -> Resolved
+) -> Option<(Pattern, Store, usize)>
     requires { OpeningAt pack.now work.old words.old cells.now s st numbered x.0 Any }
     ensures { NotesAt pack.now work.old words.old work.new words.new cells.now s st numbered x.0 result }
 {
-    match read_either(pack, work, words, cells, s, st, numbered, x) {
-        Resolved::Read(p, more, n) => {
-            put_word(work, s.table, patterns_at(cells) + x.0 as usize, p.0 + 1);
-            Resolved::Read(p, more, n)
-        }
-        Resolved::Short => Resolved::Short,
-    }
+    let (p, more, n) = read_either(pack, work, words, cells, s, st, numbered, x)?;
+    put_word(work, s.table, patterns_at(cells) + x.0 as usize, p.0 + 1);
+    Some((p, more, n))
 }

@@ -35,8 +35,7 @@ pub fn word_at(work: &[u32], t: Table, i: usize) -> u32
     requires { (t.at + i < t.end) × (t.end ≤ length work.now) }
     ensures { result ≡ get_or (table_in t work.now) i 0 }
 {
-    let at = t.at + i;
-    work[at]
+    work[t.at + i]
 }
 
 // Word `i` of the table becomes `v`.
@@ -44,18 +43,14 @@ pub fn put_word(work: &mut [u32], t: Table, i: usize, v: u32)
     requires { (t.at + i < t.end) × (t.end ≤ length work.old) }
     ensures { work.new ≡ set work.old (t.at + i) v }
 {
-    let at = t.at + i;
-    work[at] = v;
+    work[t.at + i] = v;
 }
 
 // The number that a word says; 0 where it says none.
 pub fn said(word: u32) -> u32
     ensures { result ≡ word - 1 }
 {
-    if word == 0 {
-        return 0;
-    }
-    word - 1
+    word.saturating_sub(1)
 }
 
 // How many arguments' roots are to be read back ahead of root `x`: a variable has none.
@@ -63,12 +58,10 @@ pub fn count(work: &[u32], cells: &[u32], t: Table, g: Graph, x: Node) -> usize
     requires { Asking cells.now work.now t g x.0 }
     ensures { CountOf cells.now work.now t g x.0 result }
 {
-    let a = t.at;
-    let e = t.end;
-    if g.head(cells, &work[a..e], x) == Pattern::VAR {
+    if g.head(cells, &work[t.at..t.end], x) == Pattern::VAR {
         return 0;
     }
-    g.arity(cells, &work[a..e], x)
+    g.arity(cells, &work[t.at..t.end], x)
 }
 
 // Whether variable `x` gets a number: if all do, or if it is flexible.
@@ -79,9 +72,7 @@ pub fn numbers(work: &[u32], cells: &[u32], t: Table, g: Graph, x: Node, everyon
     if everyone {
         return true;
     }
-    let a = t.at;
-    let e = t.end;
-    g.is_flexible(cells, &work[a..e], x)
+    g.is_flexible(cells, &work[t.at..t.end], x)
 }
 
 // The root of argument `i` of node `x`.
@@ -89,10 +80,8 @@ pub fn argument_root(work: &mut [u32], cells: &[u32], t: Table, g: Graph, x: Nod
     requires { Arguing cells.now work.old t g x.0 i }
     ensures { Rooted cells.now work.old work.new t g x.0 i result.0 }
 {
-    let a = t.at;
-    let e = t.end;
-    let y = g.argument(cells, &work[a..e], x, i);
-    g.find(cells, &mut work[a..e], y)
+    let y = g.argument(cells, &work[t.at..t.end], x, i);
+    g.find(cells, &mut work[t.at..t.end], y)
 }
 
 // The head of root `x`, then what its arguments' roots were read back as; how many words these are.
@@ -107,16 +96,12 @@ pub fn key_of(
     requires { Ripe cells.now work.old t g x.0 × (length key.old ≡ most_arity + 1) }
     ensures { Keyed cells.now work.old work.new t g x.0 key.new result }
 {
-    let a = t.at;
-    let e = t.end;
     let patterns = patterns_at(cells);
-    let k = g.arity(cells, &work[a..e], x);
-    key[0] = g.head(cells, &work[a..e], x);
-    let mut i: usize = 0;
-    while i < k {
+    let k = g.arity(cells, &work[t.at..t.end], x);
+    key[0] = g.head(cells, &work[t.at..t.end], x);
+    for i in 0..k {
         let r = argument_root(work, cells, t, g, x, i);
-        i += 1;
-        key[i] = word_at(work, t, patterns + r.0 as usize) - 1;
+        key[i + 1] = word_at(work, t, patterns + r.0 as usize) - 1;
     }
     k + 1
 }

@@ -1,4 +1,5 @@
 -- The turns together: what is left gives the whole, and with each turn less is left.
+use Rattle.std.specs.Prelude.{Some, None}
 use Rattle.std.specs.Prelude.{◌≡◌, ℕ, suc, ◌+◌, ◌*◌, ◌-◌, ◌≤◌, ◌<◌, length, set}
 use Rattle.std.proofs.Common.{sym, subst, ◌∙◌, arith}
 use Rattle.std.proofs.Math.Path.{ap}
@@ -23,7 +24,6 @@ use Rattle.base.specs.Pairs.{pairs_in, pairs_more}
 use Rattle.graph.specs.Pushes.{cells_shown}
 use Rattle.graph.specs.Inner.{many-nodes}
 use Rattle.term_values.specs.declared.values.Valued.{Valued}
-use Rattle.term_values.specs.declared.fix.Turn.TheVariants.{On, Unlike}
 use Rattle.term_values.specs.declared.fix.Fixed.{Fixed}
 use Rattle.term_values.specs.declared.fix.Fixed.TheVariants.{Done, Differs}
 use Rattle.term_values.specs.Stores.{PutsPair}
@@ -77,7 +77,7 @@ module _ (bytes before work words : List ℕ) (c : Catalog) (l : Valued) (s : Co
       }
 
   -- a turn more
-  module _ (work' : List ℕ) (more : ℕ) (M : Takes bytes work work' words c l s top (On more)) where
+  module _ (work' : List ℕ) (more : ℕ) (M : Takes bytes work work' words c l s top (Some more)) where
     -- what is left still gives the whole
     pub going_on : Going bytes before work' words c l s more
     going_on = record {
@@ -158,7 +158,7 @@ module _ (bytes work words : List ℕ) (c : Catalog) (l : Valued) (s : Counts) (
   )
 
   -- one differs
-  pub fixes_differs : (mid work' : List ℕ) (top : ℕ) → Going bytes first mid words c l s (suc top) → Takes bytes mid work' words c l s top Unlike → Fixes bytes work work' words c l s x n Differs
+  pub fixes_differs : (mid work' : List ℕ) (top : ℕ) → Going bytes first mid words c l s (suc top) → Takes bytes mid work' words c l s top None → Fixes bytes work work' words c l s x n Differs
   fixes_differs mid work' top G M = (
     outside_then l.at (l.at + values_end words) work first work' W.1 (outside_then l.at (l.at + values_end words) first mid work' G.framed M.0),
     λ P R p h vs S.

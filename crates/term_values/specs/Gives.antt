@@ -1,4 +1,5 @@
 -- A root without a value gets one: what a turn answers, and that of `give`.
+use Rattle.std.specs.Prelude.{Option as Optional, Some, None}
 use Rattle.std.specs.Prelude.{◌≡◌, List, ◌∷◌, ℕ, ◌+◌, ◌≤◌, ◌<◌, length, set}
 use Rattle.std.proofs.Common.{sym, ap, subst, ◌∙◌, arith}
 use Rattle.std.proofs.Math.Option.{Option, none, some}
@@ -24,19 +25,16 @@ use Rattle.graph.specs.Joins.{HeadOf, head-variable, head-other}
 use Rattle.graph.specs.Nodes.{ArityOf}
 use Rattle.base.specs.Pairs.{pairs_in, pairs_kept}
 use Rattle.term_values.specs.declared.values.Valued.{Valued}
-use Rattle.term_values.specs.declared.values.Known.TheVariants.{Nothing}
-use Rattle.term_values.specs.declared.fix.Turn.{Turn}
-use Rattle.term_values.specs.declared.fix.Turn.TheVariants.{On, Unlike}
 use Rattle.term_values.specs.Stores.{ValueIs, PutsValue}
 use Rattle.term_values.specs.Pushes.{Pushable, Pushes, ground_on}
 use Rattle.term_values.specs.Taking.{take-variable, take-unlike, take-ahead}
 
 -- what a turn with the root `at` of whatever graph is held and ground node n answers: the pairs and values that are left, or that there are none
-abbrev pub Gives : (bytes work work' words : List ℕ) (c : Catalog) (l : Valued) (s : Counts) (top : ℕ) (at : Graph → ℕ) (n : ℕ) → Turn → Type 0
-Gives bytes work work' words c l s top at n (On more) =
+abbrev pub Gives : (bytes work work' words : List ℕ) (c : Catalog) (l : Valued) (s : Counts) (top : ℕ) (at : Graph → ℕ) (n : ℕ) → Optional ℕ → Type 0
+Gives bytes work work' words c l s top at n (Some more) =
     Framed words l work work'
     × Says bytes work words c l s (λ P h vs. (ws : List Bound) × (take_value P h (at h) n (pairs_in (rows_end words) (table_in l work) top) vs ≡ some (valuing (pairs_in (rows_end words) (table_in l work') more) ws)) × Stands words (table_in l work') s h ws)
-Gives bytes work work' words c l s top at n Unlike =
+Gives bytes work work' words c l s top at n None =
     Framed words l work work' × Says bytes work words c l s (λ P h vs. take_value P h (at h) n (pairs_in (rows_end words) (table_in l work) top) vs ≡ none)
 
 -- ---- `give`: what it asks, and promises
@@ -44,11 +42,11 @@ pub record Fresh (bytes work words : List ℕ) (c : Catalog) (l : Valued) (s : C
   pub values : Values bytes work words c l s
   pub node : r < s.nodes
   pub closed : n < length (records_of work c 3)
-  pub bare : ValueIs words (table_in l work) r Nothing
+  pub bare : ValueIs words (table_in l work) r None
   pub room : top + length (vertex values.graph r).args ≤ length words + 1
 
 -- a turn with root r
-abbrev pub GivesTo : (bytes work work' words : List ℕ) (c : Catalog) (l : Valued) (s : Counts) (top r n : ℕ) → Turn → Type 0
+abbrev pub GivesTo : (bytes work work' words : List ℕ) (c : Catalog) (l : Valued) (s : Counts) (top r n : ℕ) → Optional ℕ → Type 0
 GivesTo bytes work work' words c l s top r n t = Gives bytes work work' words c l s top (λ h. r) n t
 
 module _ (bytes work words : List ℕ) (c : Catalog) (l : Valued) (s : Counts) (top r n : ℕ) (Q : Fresh bytes work words c l s top r n) where
@@ -78,7 +76,7 @@ module _ (bytes work words : List ℕ) (c : Catalog) (l : Valued) (s : Counts) (
     given_pairs = ap (λ (t : List ℕ). pairs_in (rows_end words) t top) W.0 ∙ pairs_kept (rows_end words) (table_in l work) top (values_at words + r) (n + 1) (omega (arith, fresh_low))
 
     -- a variable
-    pub gives_variable : (head : ℕ) → HeadOf words (table_in l work) s r head → head ≡ variable_head → GivesTo bytes work next words c l s top r n (On top)
+    pub gives_variable : (head : ℕ) → HeadOf words (table_in l work) s r head → head ≡ variable_head → GivesTo bytes work next words c l s top r n (Some top)
     gives_variable head E v = (
       W.1,
       λ P R p h vs S. (
@@ -91,7 +89,7 @@ module _ (bytes work words : List ℕ) (c : Catalog) (l : Valued) (s : Counts) (
   -- an application
   module _ (head : ℕ) (E : HeadOf words (table_in l work) s r head) (a : head ≡ variable_head → ⊥) (other : ℕ) (O : OfPack bytes work c (λ P. (node_of P n).head) other) where
     -- with another head
-    pub gives_unlike : (other ≡ head → ⊥) → GivesTo bytes work work words c l s top r n Unlike
+    pub gives_unlike : (other ≡ head → ⊥) → GivesTo bytes work work words c l s top r n None
     gives_unlike d = (
       outside_none l.at (l.at + values_end words) work,
       λ P R p h vs S. take-unlike P h r n (pairs_in (rows_end words) (table_in l work) top) vs (Q.bare s h vs S Q.node) (head-other h r head (E h S.shows) a) (λ q. d (O P R ∙ sym q ∙ sym (E h S.shows))),
@@ -106,7 +104,7 @@ module _ (bytes work words : List ℕ) (c : Catalog) (l : Valued) (s : Counts) (
           take-ahead P h r n (pairs_in (rows_end words) (table_in l work) top) vs (Q.bare s h vs S Q.node) (head-other h r head (E h S.shows) a) (sym (E h S.shows) ∙ sym alike ∙ O P R) o e
 
       -- with more arguments, or fewer
-      pub gives_longer : (m ≡ k → ⊥) → GivesTo bytes work work words c l s top r n Unlike
+      pub gives_longer : (m ≡ k → ⊥) → GivesTo bytes work work words c l s top r n None
       gives_longer d = (
         outside_none l.at (l.at + values_end words) work,
         λ P R p h vs S. by_arguments P R h vs S none (ahead-unlike (vertex h r).args (node_of P n).args (pairs_in (rows_end words) (table_in l work) top) (λ q. d (B P R ∙ sym q ∙ sym (A h S.shows)))),
@@ -140,7 +138,7 @@ module _ (bytes work words : List ℕ) (c : Catalog) (l : Valued) (s : Counts) (
         }
 
         -- they were
-        pub gives_arguments : (work' : List ℕ) (more : ℕ) → Pushes bytes next work' words c l s top r n more → GivesTo bytes work work' words c l s top r n (On more)
+        pub gives_arguments : (work' : List ℕ) (more : ℕ) → Pushes bytes next work' words c l s top r n more → GivesTo bytes work work' words c l s top r n (Some more)
         gives_arguments work' more M = (
           outside_then l.at (l.at + values_end words) work next work' W.1 M.0,
           λ P R p h vs S.

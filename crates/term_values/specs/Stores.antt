@@ -1,4 +1,5 @@
 -- What the functions on single words promise: a value is read or put down, a pair is put down, a root is found, all values are taken away.
+use Rattle.std.specs.Prelude.{Option as Optional, Some, None}
 use Rattle.std.specs.Prelude.{◌≡◌, refl, false, List, [], ℕ, ◌+◌, ◌*◌, ◌-◌, ◌≤◌, ◌<◌, length, get_or, set, take, drop, replicate}
 use Rattle.std.proofs.Common.{sym, ap, ◌∙◌, arith}
 use Rattle.std.proofs.Math.Option.{Option, none, some}
@@ -14,16 +15,15 @@ use Rattle.graph.specs.declared.graph.Graph.{Graph as Counts}
 use Rattle.graph.specs.Cells.{rows_end, Laid, nodes_few, Shows, SameRows}
 use Rattle.graph.specs.Links.{Found}
 use Rattle.term_values.specs.declared.values.Valued.{Valued}
-use Rattle.term_values.specs.declared.values.Known.{Known}
-use Rattle.term_values.specs.declared.values.Known.TheVariants.{Is, Nothing}
+use Rattle.base.specs.declared.id.Ground.{Ground}
 
 -- ---- a value is read
-abbrev pub known_as : Known → Option ℕ
-known_as (Is n) = some n.0
-known_as Nothing = none
+abbrev pub known_as : Optional Ground → Option ℕ
+known_as (Some n) = some n.0
+known_as None = none
 
 -- it is that of x in whatever values the table holds
-abbrev pub ValueIs : List ℕ → List ℕ → ℕ → Known → Type 0
+abbrev pub ValueIs : List ℕ → List ℕ → ℕ → Optional Ground → Type 0
 ValueIs words table x r = (s : Counts) (h : Graph) (vs : List Bound) → Stands words table s h vs → x < s.nodes → value_of x vs ≡ known_as r
 
 -- a word tells a value
@@ -46,7 +46,7 @@ module _ (words work : List ℕ) (l : Valued) (F : Placed words work l) (x : ℕ
   word_is = table_at l work (values_at words + x) (omega (arith, F.room)) ∙ ap (λ (i : ℕ). get_or work i 0) (sym word_at)
 
   -- it tells that there is none
-  pub value_none : get_or work (l.at + values_at words + x) 0 ≡ 0 → ValueIs words (table_in l work) x Nothing
+  pub value_none : get_or work (l.at + values_at words + x) 0 ≡ 0 → ValueIs words (table_in l work) x None
   value_none e s g vs S m = word_none (value_of x vs) (sym (S.values x m) ∙ word_is ∙ e)
 
   -- it tells which

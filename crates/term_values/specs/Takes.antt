@@ -1,4 +1,5 @@
 -- One turn: the root of the pair behind the others has its ground node for a value, or gets it.
+use Rattle.std.specs.Prelude.{Option as Optional, Some, None}
 use Rattle.std.specs.Prelude.{◌≡◌, List, ◌∷◌, ℕ, suc, ◌+◌, ◌*◌, ◌≤◌, ◌<◌, length, get_or}
 use Rattle.std.proofs.Common.{sym, ap, ap₂, ◌∙◌, arith}
 use Rattle.std.proofs.Math.Option.{Option, some}
@@ -23,9 +24,6 @@ use Rattle.base.specs.Pairs.{pairs_in, length-pairs_in}
 use Rattle.graph.specs.Stack.{left_word, right_word, pairs_same}
 use Rattle.graph.specs.Inner.{many-nodes}
 use Rattle.term_values.specs.declared.values.Valued.{Valued}
-use Rattle.term_values.specs.declared.values.Known.TheVariants.{Nothing}
-use Rattle.term_values.specs.declared.fix.Turn.{Turn}
-use Rattle.term_values.specs.declared.fix.Turn.TheVariants.{On, Unlike}
 use Rattle.term_values.specs.Stores.{ValueIs, FindsRoot}
 use Rattle.term_values.specs.Pushes.{ground_on}
 use Rattle.term_values.specs.Taking.{take-known, take-other}
@@ -46,7 +44,7 @@ pub record Ready (bytes work words : List ℕ) (c : Catalog) (l : Valued) (s : C
   pub left : Left values.held.pack words (table_in l work) s values.graph values.values (suc top) whole
 
 -- a turn with the root of the pair's node
-abbrev pub Takes : (bytes work work' words : List ℕ) (c : Catalog) (l : Valued) (s : Counts) (top : ℕ) → Turn → Type 0
+abbrev pub Takes : (bytes work work' words : List ℕ) (c : Catalog) (l : Valued) (s : Counts) (top : ℕ) → Optional ℕ → Type 0
 Takes bytes work work' words c l s top t = Gives bytes work work' words c l s top (λ h. root h (left_word words (table_in l work) top)) (right_word words (table_in l work) top) t
 
 module _ (bytes work words : List ℕ) (c : Catalog) (l : Valued) (s : Counts) (top : ℕ) (Q : Ready bytes work words c l s top) where
@@ -104,18 +102,18 @@ module _ (bytes work words : List ℕ) (c : Catalog) (l : Valued) (s : Counts) (
     -- it has the value, or another
     module _ (m : ℕ) (E : (s : Counts) (h : Graph) (vs : List Bound) → Stands words (table_in l mid) s h vs → r < s.nodes → value_of r vs ≡ some m) where
       -- it has this one
-      pub takes-known : m ≡ n → Takes bytes work mid words c l s top (On top)
+      pub takes-known : m ≡ n → Takes bytes work mid words c l s top (Some top)
       takes-known q = (
         F.1,
         λ P R p h vs S. (vs, found_turn P h vs S ∙ take-known P h r n (pairs_in (rows_end words) (table_in l mid) top) vs m (E s h vs (found_stands h vs S) F.0.0) q, found_stands h vs S),
       )
 
       -- it has another
-      pub takes-other : (m ≡ n → ⊥) → Takes bytes work mid words c l s top Unlike
+      pub takes-other : (m ≡ n → ⊥) → Takes bytes work mid words c l s top None
       takes-other d = (F.1, λ P R p h vs S. found_turn P h vs S ∙ take-other P h r n (pairs_in (rows_end words) (table_in l mid) top) vs m (E s h vs (found_stands h vs S) F.0.0) d)
 
     -- it has none
-    module _ (E : ValueIs words (table_in l mid) r Nothing) where
+    module _ (E : ValueIs words (table_in l mid) r None) where
       -- it can get one
       pub takes-fresh : Fresh bytes mid words c l s top r n
       takes-fresh =
@@ -140,17 +138,17 @@ module _ (bytes work words : List ℕ) (c : Catalog) (l : Valued) (s : Counts) (
           }
 
       -- it gets one
-      takes_on : (work' : List ℕ) (more : ℕ) → GivesTo bytes mid work' words c l s top r n (On more) → Takes bytes work work' words c l s top (On more)
+      takes_on : (work' : List ℕ) (more : ℕ) → GivesTo bytes mid work' words c l s top r n (Some more) → Takes bytes work work' words c l s top (Some more)
       takes_on work' more M = (
         outside_then l.at (l.at + values_end words) work mid work' F.1 M.0,
         λ P R p h vs S. let t = M.1 P (found_reads P R) p h vs (found_stands h vs S) in (t.0, found_turn P h vs S ∙ t.1, t.2),
       )
 
       -- it can not
-      takes_none : (work' : List ℕ) → GivesTo bytes mid work' words c l s top r n Unlike → Takes bytes work work' words c l s top Unlike
+      takes_none : (work' : List ℕ) → GivesTo bytes mid work' words c l s top r n None → Takes bytes work work' words c l s top None
       takes_none work' M = (outside_then l.at (l.at + values_end words) work mid work' F.1 M.0, λ P R p h vs S. found_turn P h vs S ∙ M.1 P (found_reads P R) p h vs (found_stands h vs S))
 
       -- either
-      pub takes-given : (work' : List ℕ) (t : Turn) → GivesTo bytes mid work' words c l s top r n t → Takes bytes work work' words c l s top t
-      takes-given work' (On more) M = takes_on work' more M
-      takes-given work' Unlike M = takes_none work' M
+      pub takes-given : (work' : List ℕ) (t : Optional ℕ) → GivesTo bytes mid work' words c l s top r n t → Takes bytes work work' words c l s top t
+      takes-given work' (Some more) M = takes_on work' more M
+      takes-given work' None M = takes_none work' M

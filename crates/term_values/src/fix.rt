@@ -7,7 +7,7 @@ ghost use Rattle.term_values.specs.Gives.{Fresh, GivesTo};
 ghost use Rattle.term_values.specs.Takes.{Ready, Takes};
 ghost use Rattle.term_values.specs.Fixes.{Fixes};
 
-use crate::values::{Known, Valued, put_pair, put_value, root, value};
+use crate::values::{Valued, put_pair, put_value, root, value};
 use base::id::{Ground, Node, Pattern};
 use base::stack::Frame;
 use graph::graph::Graph;
@@ -20,13 +20,6 @@ use pack_tables::catalog::Catalog;
 pub enum Fixed {
     Done,
     Differs,
-}
-
-// So many pairs are left to be taken, or something differs.
-#[derive(Clone, Copy)]
-enum Turn {
-    On(usize),
-    Unlike,
 }
 
 // The `k` arguments of node `r` and of ground node `n` side by side are put behind `top` other pairs, the first ones on top; behind
@@ -46,13 +39,9 @@ fn push_arguments(
     requires { Pushable pack.now work.old cells.now c l g top r.0 n.0 k }
     ensures { Pushes pack.now work.old work.new cells.now c l g top r.0 n.0 result }
 {
-    let a = l.at;
-    let e = l.end;
     let mut on = top;
-    let mut i = k;
-    while 0 < i {
-        i -= 1;
-        let x = g.argument(cells, &work[a..e], r, i);
+    for i in (0..k).rev() {
+        let x = g.argument(cells, &work[l.at..l.end], r, i);
         let m = node_argument(pack, work, c, n, i);
         put_pair(work, cells, l, on, x, m);
         on += 1;
@@ -60,7 +49,7 @@ fn push_arguments(
     on
 }
 
-// Root `r`, which has no value, gets the value `n`.
+// Root `r`, which has no value, gets the value `n`: how many pairs are left then; none if the two differ.
 fn give(
     pack: &[u8],
     work: &mut [u32],
@@ -71,29 +60,27 @@ fn give(
     top: usize,
     r: Node,
     n: Ground,
-) -> Turn
+) -> Option<usize>
     requires { Fresh pack.now work.old cells.now c l g top r.0 n.0 }
     ensures { GivesTo pack.now work.old work.new cells.now c l g top r.0 n.0 result }
 {
-    let a = l.at;
-    let e = l.end;
-    let head = g.head(cells, &work[a..e], r);
+    let head = g.head(cells, &work[l.at..l.end], r);
     if head == Pattern::VAR {
         put_value(work, cells, l, r, n);
-        return Turn::On(top);
+        return Some(top);
     }
     if node_head(pack, work, c, n) != head {
-        return Turn::Unlike;
+        return None;
     }
-    let k = g.arity(cells, &work[a..e], r);
+    let k = g.arity(cells, &work[l.at..l.end], r);
     if node_arity(pack, work, c, n) != k {
-        return Turn::Unlike;
+        return None;
     }
     put_value(work, cells, l, r, n);
-    Turn::On(push_arguments(pack, work, cells, c, l, g, top, r, n, k))
+    Some(push_arguments(pack, work, cells, c, l, g, top, r, n, k))
 }
 
-// The pair behind `top` others is taken.
+// The pair behind `top` others is taken; none if its two differ.
 fn take_value(
     pack: &[u8],
     work: &mut [u32],
@@ -102,7 +89,7 @@ fn take_value(
     l: Valued,
     g: Graph,
     top: usize,
-) -> Turn
+) -> Option<usize>
     requires { Ready pack.now work.old cells.now c l g top }
     ensures { Takes pack.now work.old work.new cells.now c l g top result }
 {
@@ -110,17 +97,13 @@ fn take_value(
     let x = Node(work[at]);
     let n = Ground(work[at + Frame::SECOND]);
     let r = root(work, cells, l, g, x);
-    match value(work, cells, l, r) {
-        Known::Is(m) => {
-            if m.0 == n.0 {
-                return Turn::On(top);
-            }
-            return Turn::Unlike;
-        }
-        Known::Nothing => {
-            return give(pack, work, cells, c, l, g, top, r, n);
-        }
+    let Some(m) = value(work, cells, l, r) else {
+        return give(pack, work, cells, c, l, g, top, r, n);
+    };
+    if m.0 != n.0 {
+        return None;
     }
+    Some(top)
 }
 
 // Node `x` gets the ground value `n`, and what is below it what is below `n`.
@@ -140,14 +123,10 @@ pub fn fix(
     put_pair(work, cells, l, 0, x, n);
     let mut top: usize = 1;
     while 0 < top {
-        match take_value(pack, work, cells, c, l, g, top - 1) {
-            Turn::On(more) => {
-                top = more;
-            }
-            Turn::Unlike => {
-                return Fixed::Differs;
-            }
-        }
+        let Some(more) = take_value(pack, work, cells, c, l, g, top - 1) else {
+            return Fixed::Differs;
+        };
+        top = more;
     }
     Fixed::Done
 }

@@ -7,7 +7,6 @@ ghost use Rattle.definition.specs.Store.{nothing};
 
 use base::id::{Ground, Node};
 use base::stack::Frame;
-use buffer::zero::zero_words;
 use graph::graph::Graph;
 use graph::places::{pairs_at, values_at};
 
@@ -19,24 +18,17 @@ pub struct Valued {
     pub end: usize,
 }
 
-// A node's ground value, or that it has none.
-#[derive(Clone, Copy)]
-pub enum Known {
-    Is(Ground),
-    Nothing,
-}
-
-// The value of node `x`.
-pub fn value(work: &[u32], cells: &[u32], l: Valued, x: Node) -> Known
+// The value of node `x`, if it has one.
+pub fn value(work: &[u32], cells: &[u32], l: Valued, x: Node) -> Option<Ground>
     requires { Placed cells.now work.now l × (x.0 < length cells.now) }
     ensures { ValueIs cells.now (table_in l work.now) x.0 result }
 {
     let at = l.at + values_at(cells) + x.0 as usize;
     let word = work[at];
     if word == 0 {
-        return Known::Nothing;
+        return None;
     }
-    Known::Is(Ground(word - 1))
+    Some(Ground(word - 1))
 }
 
 // Node `x` has the value `n` from now on.
@@ -63,9 +55,7 @@ pub fn root(work: &mut [u32], cells: &[u32], l: Valued, g: Graph, x: Node) -> No
     requires { Placed cells.now work.old l × Holds cells.now (table_in l work.old) g × (x.0 < g.nodes) }
     ensures { FindsRoot cells.now work.old work.new l g x.0 result.0 }
 {
-    let a = l.at;
-    let e = l.end;
-    g.find(cells, &mut work[a..e], x)
+    g.find(cells, &mut work[l.at..l.end], x)
 }
 
 // No node has a value from now on.
@@ -73,7 +63,6 @@ pub fn clear(work: &mut [u32], cells: &[u32], l: Valued, g: Graph)
     requires { Placed cells.now work.old l × Holds cells.now (table_in l work.old) g }
     ensures { Clears cells.now work.old work.new l g }
 {
-    let a = l.at + values_at(cells);
-    let e = a + g.nodes;
-    zero_words(&mut work[a..e]);
+    let from = l.at + values_at(cells);
+    work[from..from + g.nodes].fill(0);
 }

@@ -1,4 +1,5 @@
 -- All goals when all classes are made: what showing them asks, and promises.
+use Rattle.std.specs.Prelude.{Result, Ok, Err}
 use Rattle.std.specs.Prelude.{◌≡◌, List, ℕ, ◌+◌, ◌*◌, ◌≤◌, ◌<◌, length, get_or}
 use Rattle.std.proofs.Common.{ap, arith}
 use Rattle.definition.specs.Pack.{Pack}
@@ -8,7 +9,7 @@ use Rattle.definition.specs.Classes.{Built, no_class}
 use Rattle.definition.specs.Run.{outcome}
 use Rattle.definition.specs.Goals.{Root, test_goals}
 use Rattle.definition.specs.Shown.{shown_text}
-use Rattle.definition.specs.declared.Refusal.TheVariants.{Goal as Unmet, Instance as Unlike}
+use Rattle.definition.specs.declared.Refusal.{Refusal}
 use Rattle.base.specs.Upto.{Upto, upto_then}
 use Rattle.memo.specs.Lent.{Clears}
 use Rattle.memo.specs.declared.memo.Memo.{Memo}
@@ -22,8 +23,6 @@ use Rattle.text_write.specs.Written.{Adds}
 use Rattle.text_goals.specs.Showable.{Showable}
 use Rattle.text_goals.specs.EachShown.{ShowsEach}
 use Rattle.text_goals.specs.declared.goal.Budgets.{Budgets}
-use Rattle.text_goals.specs.declared.goals.Goals.{Goals}
-use Rattle.text_goals.specs.declared.goals.Goals.TheVariants as answers
 
 -- all classes are made, and behind the goals' tables there is room for the stack of a shown term
 pub record Starting (bytes work class words : List ℕ) (s : Building) (t : Instance) : Type 0 where
@@ -38,12 +37,11 @@ abbrev pub OfAll : (bytes work class words : List ℕ) (s : Building) → (Pack 
 OfAll bytes work class words s F = OfMade bytes work class words s.catalog s.keying s.layout s.store F
 
 -- all pass, and their text is written; or one is refused
-abbrev pub ShowsAll : (bytes work work' class words text text' : List ℕ) (s : Building) (t : Instance) (b : Budgets) → Goals → Type 0
-ShowsAll bytes work work' class words text text' s t b (answers.Shown end) =
+abbrev pub ShowsAll : (bytes work work' class words text text' : List ℕ) (s : Building) (t : Instance) (b : Budgets) → Result ℕ Refusal → Type 0
+ShowsAll bytes work work' class words text text' s t b (Ok end) =
     Upto t.pairs work work'
     × OfAll bytes work class words s (λ P x. (rs : List Root) × ((L : Lent) → outcome L (test_goals P x 0 P.goals) ≡ fine rs) × Adds text text' 0 (shown_text P x b.form b.value rs) end)
-ShowsAll bytes work work' class words text text' s t b (answers.Unmet i) = OfAll bytes work class words s (λ P x. (L : Lent) → outcome L (test_goals P x 0 P.goals) ≡ refuse (Unmet i))
-ShowsAll bytes work work' class words text text' s t b (answers.Other n) = OfAll bytes work class words s (λ P x. (L : Lent) → outcome L (test_goals P x 0 P.goals) ≡ refuse (Unlike n))
+ShowsAll bytes work work' class words text text' s t b (Err z) = OfAll bytes work class words s (λ P x. (L : Lent) → outcome L (test_goals P x 0 P.goals) ≡ refuse z)
 
 module _ (bytes work class words : List ℕ) (s : Building) (t : Instance) (S : Starting bytes work class words s t) (mid : List ℕ) (fresh : Memo) (A : Clears work mid t.seen t.values fresh)
     (next : List ℕ) (bare : Memo) (B : Clears mid next t.values t.end bare) where
@@ -71,10 +69,9 @@ module _ (bytes work class words : List ℕ) (s : Building) (t : Instance) (S : 
       }
 
   -- and what they come to
-  pub starts_shows : (work' text text' : List ℕ) (b : Budgets) (r : Goals) → ShowsEach bytes next work' class words text text' s t b r → ShowsAll bytes work work' class words text text' s t b r
-  starts_shows work' text text' b (answers.Shown end) N = (
+  pub starts_shows : (work' text text' : List ℕ) (b : Budgets) (r : Result ℕ Refusal) → ShowsEach bytes next work' class words text text' s t b r → ShowsAll bytes work work' class words text text' s t b r
+  starts_shows work' text text' b (Ok end) N = (
     upto_then t.pairs work next work' begun_upto N.0,
     λ cells r memo fill P x T a. N.1 P x (begun_read bytes work class words s.catalog s.keying s.layout t s.store S.made mid fresh A next bare B cells r memo fill P x T a),
   )
-  starts_shows work' text text' b (answers.Unmet i) N = λ cells r memo fill P x T a. N P x (begun_read bytes work class words s.catalog s.keying s.layout t s.store S.made mid fresh A next bare B cells r memo fill P x T a)
-  starts_shows work' text text' b (answers.Other n) N = λ cells r memo fill P x T a. N P x (begun_read bytes work class words s.catalog s.keying s.layout t s.store S.made mid fresh A next bare B cells r memo fill P x T a)
+  starts_shows work' text text' b (Err z) N = λ cells r memo fill P x T a. N P x (begun_read bytes work class words s.catalog s.keying s.layout t s.store S.made mid fresh A next bare B cells r memo fill P x T a)

@@ -1,4 +1,5 @@
 -- One goal after the other: with each that is met the goals left give what all give, and their lines stand behind each other.
+use Rattle.std.specs.Prelude.{Result, Ok, Err}
 use Rattle.std.specs.Prelude.{◌≡◌, refl, ℕ, ◌+◌, ◌≤◌, ◌<◌, length}
 use Rattle.std.proofs.Math.Path.{sym, ap}
 use Rattle.std.proofs.Common.{◌∙◌, arith}
@@ -10,7 +11,7 @@ use Rattle.definition.specs.Classes.{Built}
 use Rattle.definition.specs.Run.{outcome}
 use Rattle.definition.specs.Goals.{Root, test_goals}
 use Rattle.definition.specs.Shown.{goal_lines, shown_text}
-use Rattle.definition.specs.declared.Refusal.TheVariants.{Goal as Unmet, Instance as Unlike}
+use Rattle.definition.specs.declared.Refusal.{Refusal}
 use Rattle.base.specs.Upto.{Upto, upto_none, upto_then}
 use Rattle.memo.specs.declared.memo.Memo.{Memo}
 use Rattle.pack_tables.specs.Catalog.{records_of}
@@ -23,19 +24,14 @@ use Rattle.text_write.specs.Written.{Adds, adds_none, adds_then, adds_as}
 use Rattle.text_goals.specs.Showable.{ReadyIn, GivenIn, Showable, showable_on}
 use Rattle.text_goals.specs.OneShown.{ShowsOne}
 use Rattle.text_goals.specs.declared.goal.Budgets.{Budgets}
-use Rattle.text_goals.specs.declared.goal.Shown.TheVariants as one
-use Rattle.text_goals.specs.declared.goals.Goals.{Goals}
-use Rattle.text_goals.specs.declared.goals.Goals.TheVariants as answers
 
 -- all pass, and their lines are written; or one is refused
-abbrev pub ShowsEach : (bytes work work' class words text text' : List ℕ) (s : Building) (t : Instance) (b : Budgets) → Goals → Type 0
-ShowsEach bytes work work' class words text text' s t b (answers.Shown end) =
+abbrev pub ShowsEach : (bytes work work' class words text text' : List ℕ) (s : Building) (t : Instance) (b : Budgets) → Result ℕ Refusal → Type 0
+ShowsEach bytes work work' class words text text' s t b (Ok end) =
     Upto t.pairs work work'
     × ((P : Pack) (x : Built) → ReadyIn bytes work class words s t P x → (rs : List Root) × ((L : Lent) → outcome L (test_goals P x 0 P.goals) ≡ fine rs) × Adds text text' 0 (shown_text P x b.form b.value rs) end)
-ShowsEach bytes work work' class words text text' s t b (answers.Unmet i) =
-    (P : Pack) (x : Built) → ReadyIn bytes work class words s t P x → (L : Lent) → outcome L (test_goals P x 0 P.goals) ≡ refuse (Unmet i)
-ShowsEach bytes work work' class words text text' s t b (answers.Other n) =
-    (P : Pack) (x : Built) → ReadyIn bytes work class words s t P x → (L : Lent) → outcome L (test_goals P x 0 P.goals) ≡ refuse (Unlike n)
+ShowsEach bytes work work' class words text text' s t b (Err z) =
+    (P : Pack) (x : Built) → ReadyIn bytes work class words s t P x → (L : Lent) → outcome L (test_goals P x 0 P.goals) ≡ refuse z
 
 -- texts behind each other
 text_append : (P : Pack) (x : Built) (budget valueBudget : ℕ) (rs ss : List Root) → shown_text P x budget valueBudget (rs ++ ss) ≡ shown_text P x budget valueBudget rs ++ shown_text P x budget valueBudget ss
@@ -74,12 +70,12 @@ module _ (bytes work class words text₀ : List ℕ) (s : Building) (t : Instanc
     going_recorded h = omega (arith, goal-given g h S.pack S.built S.ready, length_goals bytes (records_of work' s.catalog) S.pack (still S.pack S.built S.ready).reads)
 
     -- none is left
-    pub going_all : length (records_of work s.catalog 5) ≤ g → ShowsEach bytes work work' class words text₀ text s t b (answers.Shown at)
+    pub going_all : length (records_of work s.catalog 5) ≤ g → ShowsEach bytes work work' class words text₀ text s t b (Ok at)
     going_all h = (G.upto, λ P x R. let K = G.left P x R in (K.0, left_end P x g K.0 K.1 (omega (arith, h, length_goals bytes (records_of work s.catalog) P R.reads)), K.2))
 
     module _ (h : g < length (records_of work s.catalog 5)) (work'' text' : List ℕ) where
       -- it is met
-      pub going_on : (seen' values' : Memo) (end : ℕ) → ShowsOne bytes work' work'' class words text text' s t b at g (one.On seen' values' end) → Going bytes work work'' class words text₀ text' s t b seen' values' (g + 1) end
+      pub going_on : (seen' values' : Memo) (end : ℕ) → ShowsOne bytes work' work'' class words text text' s t b at g (Ok (seen', values', end)) → Going bytes work work'' class words text₀ text' s t b seen' values' (g + 1) end
       unfolding shown_text
       going_on seen' values' end N = record {
         upto = upto_then t.pairs work work' work'' G.upto N.0;
@@ -95,10 +91,6 @@ module _ (bytes work class words text₀ : List ℕ) (s : Building) (t : Instanc
             (K.0 ++ (r ∷ []), left_on P x g K.0 K.1 (goal-given g h P x R) r (λ L. D.1 g L), adds_as text₀ text' 0 end (before ++ lines) _ e (adds_then text₀ text text' 0 at end before lines K.2 D.2));
       }
 
-      -- it has no result, or one with another judgment
-      pub going_unmet : ShowsOne bytes work' work'' class words text text' s t b at g one.Unmet → ShowsEach bytes work work'' class words text₀ text' s t b (answers.Unmet g)
-      going_unmet N = λ P x R L. left-refused P x g (G.left P x R).0 (G.left P x R).1 (goal-given g h P x R) L (Unmet g) (N P x (still P x R) g L)
-
-      -- its judgment is no instance
-      pub going_other : (n : ℕ) → ShowsOne bytes work' work'' class words text text' s t b at g (one.Other n) → ShowsEach bytes work work'' class words text₀ text' s t b (answers.Other n)
-      going_other n N = λ P x R L. left-refused P x g (G.left P x R).0 (G.left P x R).1 (goal-given g h P x R) L (Unlike n) (N P x (still P x R) g L)
+      -- it is refused
+      pub going_refused : (z : Refusal) → ShowsOne bytes work' work'' class words text text' s t b at g (Err z) → ShowsEach bytes work work'' class words text₀ text' s t b (Err z)
+      going_refused z N = λ P x R L. left-refused P x g (G.left P x R).0 (G.left P x R).1 (goal-given g h P x R) L z (N.1 P x (still P x R) g L ∙ ap (λ (y : Refusal). refuse y) N.0)

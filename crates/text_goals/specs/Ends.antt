@@ -1,4 +1,5 @@
 -- The end of the call's run: the goals shown and the figures, when all classes are made.
+use Rattle.std.specs.Prelude.{Result, Ok, Err}
 use Rattle.std.specs.Prelude.{◌≡◌, refl, List, [], ℕ, ◌≤◌, ◌<◌, length, take}
 use Rattle.std.proofs.Common.{sym, subst, arith}
 use Rattle.definition.specs.Pack.{Pack}
@@ -24,9 +25,6 @@ use Rattle.class_build.specs.Finish.{tables_made, stack_fits, figures_are}
 use Rattle.text_write.specs.Written.{written_none, ends-whole, ends_short}
 use Rattle.text_goals.specs.AllShown.{Starting, ShowsAll}
 use Rattle.text_goals.specs.declared.goal.Budgets.{Budgets}
-use Rattle.text_goals.specs.declared.goals.Goals.TheVariants as goals
-use Rattle.text_goals.specs.declared.show.Answer.{Answer}
-use Rattle.text_goals.specs.declared.show.Answer.TheVariants as answers
 
 -- all classes of pack P are made, in these buffers
 abbrev pub EndedIn : Buffers → Building → Counts → Counted → Pack → Built → Type 0
@@ -46,9 +44,9 @@ pub record Showed (P : Pack) (x : Built) (b : Budgets) (text' : List ℕ) (k : �
   pub counted : f ≡ figures P x
 
 -- what `finish` answers
-abbrev pub EndsShown : Buffers → (text text' : List ℕ) → Building → Counts → Counted → Budgets → Answer → Type 0
-EndsShown B text text' s r sums b (answers.Done n m k f) = (n ≡ s.fill) × (m ≡ s.store.used) × (k ≤ length text') × ((P : Pack) (x : Built) → EndedIn B s r sums P x → Showed P x b text' k f)
-EndsShown B text text' s r sums b (answers.Refused y) = (P : Pack) (x : Built) → EndedIn B s r sums P x → Refusing P x b text y
+abbrev pub EndsShown : Buffers → (text text' : List ℕ) → Building → Counts → Counted → Budgets → Result (ℕ × ℕ × ℕ × Figures) Refusal → Type 0
+EndsShown B text text' s r sums b (Ok (n, m, k, f)) = (n ≡ s.fill) × (m ≡ s.store.used) × (k ≤ length text') × ((P : Pack) (x : Built) → EndedIn B s r sums P x → Showed P x b text' k f)
+EndsShown B text text' s r sums b (Err y) = (P : Pack) (x : Built) → EndedIn B s r sums P x → Refusing P x b text y
 
 module _ (B : Buffers) (s : Building) (r : Counts) (sums : Counted) (T : TestingIn B s r sums) (small : length B.class < 4294967296) (i : Instance) (e : i ≡ test_tables (length B.graph) s.layout s.store) where
   -- goals can be shown
@@ -67,8 +65,8 @@ module _ (B : Buffers) (s : Building) (r : Counts) (sums : Counted) (T : Testing
 
   module _ (text text' work' : List ℕ) (b : Budgets) (same : length text' ≡ length text) (room : length text < 18446744073709551615) where
     -- the text has room
-    pub ends-done : (k : ℕ) → ShowsAll B.pack B.work work' B.class B.pattern text text' s i b (goals.Shown k) → k ≤ length text' → (f : Figures) → Figured work' s.keying r s.layout.nodes s.store sums f
-        → EndsShown B text text' s r sums b (answers.Done s.fill s.store.used k f)
+    pub ends-done : (k : ℕ) → ShowsAll B.pack B.work work' B.class B.pattern text text' s i b (Ok k) → k ≤ length text' → (f : Figures) → Figured work' s.keying r s.layout.nodes s.store sums f
+        → EndsShown B text text' s r sums b (Ok (s.fill, s.store.used, k, f))
     ends-done k N h f F = (
       refl,
       refl,
@@ -86,14 +84,11 @@ module _ (B : Buffers) (s : Building) (r : Counts) (sums : Counted) (T : Testing
     )
 
     -- it has none
-    pub ends-full : (k : ℕ) → ShowsAll B.pack B.work work' B.class B.pattern text text' s i b (goals.Shown k) → length text' < k → EndsShown B text text' s r sums b (answers.Refused (refusals.Short 5))
+    pub ends-full : (k : ℕ) → ShowsAll B.pack B.work work' B.class B.pattern text text' s i b (Ok k) → length text' < k → EndsShown B text text' s r sums b (Err (refusals.Short 5))
     ends-full k N h P x E =
         let D = N.1 B.graph r E.memo s.fill P x E.standing E.all in
         short D.0 D.1 (omega (arith, same, ends_short text' k (shown_text P x b.form b.value D.0) (D.2.written [] (written_none text)) h)) refl
 
     -- a goal is refused
-    pub ends-unmet : (g : ℕ) → ShowsAll B.pack B.work work' B.class B.pattern text text' s i b (goals.Unmet g) → EndsShown B text text' s r sums b (answers.Refused (refusals.Goal g))
-    ends-unmet g N P x E = unmet (N B.graph r E.memo s.fill P x E.standing E.all)
-
-    pub ends-other : (n : ℕ) → ShowsAll B.pack B.work work' B.class B.pattern text text' s i b (goals.Other n) → EndsShown B text text' s r sums b (answers.Refused (refusals.Instance n))
-    ends-other n N P x E = unmet (N B.graph r E.memo s.fill P x E.standing E.all)
+    pub ends-refused : (z : Refusal) → ShowsAll B.pack B.work work' B.class B.pattern text text' s i b (Err z) → EndsShown B text text' s r sums b (Err z)
+    ends-refused z N P x E = unmet (N B.graph r E.memo s.fill P x E.standing E.all)

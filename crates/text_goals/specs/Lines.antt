@@ -1,4 +1,5 @@
 -- The lines of a goal's variables.
+use Rattle.std.specs.Prelude.{Some, None}
 use Rattle.std.specs.Prelude.{◌≡◌, refl, false, List, [], ◌∷◌, ◌++◌, length, get_or}
 use Rattle.std.proofs.Math.Path.{sym}
 use Rattle.std.proofs.Common.{ap, subst, ◌∙◌, append_assoc, append-nil}
@@ -16,7 +17,6 @@ use Rattle.definition.specs.Shown.{show, variable_name, variable_line, variable_
 use Rattle.base.specs.Upto.{Upto, upto_none, upto_then}
 use Rattle.memo.specs.Recall.{recall, length-recall, known}
 use Rattle.memo.specs.Lent.{lent, lent_long, recall_at}
-use Rattle.memo.specs.declared.memo.Known.TheVariants.{Value, Nothing}
 use Rattle.pack_tables.specs.Catalog.{records_of}
 use Rattle.pack_read.specs.Reads.{Reads, length-nodes}
 use Rattle.pack_read.specs.Says.{Readable}
@@ -127,17 +127,17 @@ module _ (bytes work class words : List ℕ) (f : Form) (k : ℕ) (L : Lined byt
       (omega (arith, L.room), omega (arith, top), omega (arith, h, L.room, l, length-recall (lent f.values f.stack work) f.memo))
 
   -- it has one
-  pub variable-kinds : (n : ℕ) → known (Value n) ≡ recall_at f.values f.stack work f.memo k → Kinds bytes work class words f k n
+  pub variable-kinds : (n : ℕ) → known (Some n) ≡ recall_at f.values f.stack work f.memo k → Kinds bytes work class words f k n
   variable-kinds n e = (L, h, L.given k n (sym e))
 
-  pub variable_some : (n : ℕ) → known (Value n) ≡ recall_at f.values f.stack work f.memo k → (work' text text' : List ℕ) (at r : ℕ) → WritesLine bytes work work' class words text text' f at k n r → WritesVariable bytes work work' class words text text' f at k r
+  pub variable_some : (n : ℕ) → known (Some n) ≡ recall_at f.values f.stack work f.memo k → (work' text text' : List ℕ) (at r : ℕ) → WritesLine bytes work work' class words text text' f at k n r → WritesVariable bytes work work' class words text text' f at k r
   variable_some n e work' text text' at r W = record {
     upto = W.upto;
     adds = λ P x vs R Q S. adds_as text text' at r _ (variable_lines P x f.budget vs (k ∷ [])) (sym (line_some P x f.budget vs k n (sym (S.values k) ∙ sym e))) (W.adds P x vs R Q S);
   }
 
   -- it has none
-  pub variable-none : known Nothing ≡ recall_at f.values f.stack work f.memo k → (text : List ℕ) (at : ℕ) → WritesVariable bytes work work class words text text f at k at
+  pub variable-none : known None ≡ recall_at f.values f.stack work f.memo k → (text : List ℕ) (at : ℕ) → WritesVariable bytes work work class words text text f at k at
   variable-none e text at = record {
     upto = upto_none f.stack work;
     adds = λ P x vs R Q S. adds_as text text at at [] (variable_lines P x f.budget vs (k ∷ [])) (sym (line-none P x f.budget vs k (sym (S.values k) ∙ sym e))) (adds_none text at);

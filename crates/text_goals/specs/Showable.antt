@@ -1,4 +1,5 @@
 -- When all classes are made: what showing a goal reads, and what it leaves.
+use Rattle.std.specs.Prelude.{Result, Ok}
 use Rattle.std.specs.Prelude.{◌≡◌, refl, Bool, true, false, List, ℕ, ◌+◌, ◌*◌, ◌≤◌, ◌<◌, length, get_or}
 use Rattle.std.proofs.Common.{sym, ap, subst, ◌∙◌, arith}
 use Rattle.definition.specs.Pack.{Node, Pack}
@@ -19,8 +20,7 @@ use Rattle.term_instance.specs.Held.{Given, given_on}
 use Rattle.term_instance.specs.declared.tables.Instance.{Instance}
 use Rattle.class_build.specs.Testable.{Marked, Ready, Testable, ready_upto}
 use Rattle.class_build.specs.OneGoal.{TestsOne}
-use Rattle.class_build.specs.declared.goal.Goal.{Goal}
-use Rattle.class_build.specs.declared.goal.Goal.TheVariants as one
+use Rattle.definition.specs.declared.Refusal.{Refusal}
 use Rattle.text_write.specs.Written.{Adds, adds_as}
 use Rattle.text_write.specs.Source.{Sourced, lent_upto, many_ground, many_pattern}
 use Rattle.text_write.specs.declared.source.Source.{Source}
@@ -43,7 +43,7 @@ ReadyIn bytes work class words s t P b = Ready bytes work class words s.catalog 
 abbrev pub GivenIn : (bytes work words : List ℕ) (s : Building) (t : Instance) (seen values : Memo) → Type 0
 GivenIn bytes work words s t seen values = Given bytes work words s.catalog t s.store seen values
 
-abbrev pub TestsIn : (bytes work work' class words : List ℕ) (s : Building) (t : Instance) (g : ℕ) → Goal → Type 0
+abbrev pub TestsIn : (bytes work work' class words : List ℕ) (s : Building) (t : Instance) (g : ℕ) → Result (Memo × Memo × ℕ) Refusal → Type 0
 TestsIn bytes work work' class words s t g r = TestsOne bytes work work' class words s.catalog s.keying s.layout t s.store g r
 
 -- goals can be tested, and behind the tests' tables there is room for the stack of a shown term
@@ -101,7 +101,7 @@ module _ (bytes work class words : List ℕ) (s : Building) (t : Instance) (seen
   shows_testable = record { pack = S.pack; built = S.built; ready = S.ready; given = S.given }
 
   -- it is met
-  module _ (g : ℕ) (work' : List ℕ) (seen' values' : Memo) (row : ℕ) (N : TestsIn bytes work work' class words s t g (one.Met seen' values' row)) where
+  module _ (g : ℕ) (work' : List ℕ) (seen' values' : Memo) (row : ℕ) (N : TestsIn bytes work work' class words s t g (Ok (seen', values', row))) where
     -- the memos as they are then
     met-given : GivenIn bytes work' words s t seen' values'
     met-given = given_on bytes work words s.catalog t s.store seen values S.given work' seen' values' N.0

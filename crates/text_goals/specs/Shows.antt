@@ -1,4 +1,5 @@
 -- What the goals as shown come to, whole.
+use Rattle.std.specs.Prelude.{Result, Ok, Err}
 use Rattle.std.specs.Prelude.{◌≡◌, List, ℕ, ◌≤◌, ◌<◌, length, take}
 use Rattle.std.proofs.Common.{sym, ap, ◌∙◌, arith}
 use Rattle.definition.specs.Pack.{Pack}
@@ -24,11 +25,8 @@ use Rattle.class_premises.specs.declared.building.Counted.{Counted}
 use Rattle.class_premises.specs.Buffers.{lent}
 use Rattle.class_build.specs.LeftWords.{class_words_law, class_fits, pattern_words_law, pattern_fits}
 use Rattle.class_build.specs.Build.{BuildsClasses, MadeAll, run-unbuilt, run_untested, run-done}
-use Rattle.class_build.specs.declared.build.Classes.TheVariants as made
 use Rattle.text_goals.specs.Ends.{Refusing, unmet, short, EndsShown}
 use Rattle.text_goals.specs.declared.goal.Budgets.{Budgets}
-use Rattle.text_goals.specs.declared.show.Answer.{Answer}
-use Rattle.text_goals.specs.declared.show.Answer.TheVariants as answers
 
 -- the lengths lent of the buffers that the run writes
 pub record LendsText (L : Lent) (class words cells text : List ℕ) : Type 0 where
@@ -50,9 +48,9 @@ pub record Answered (class words cells text class' words' text' : List ℕ) (b :
   pub counted : f ≡ figures P built
 
 -- what `show` answers of the pack that is held
-abbrev pub Shows : (bytes work class words cells text class' words' text' : List ℕ) → Catalog → Budgets → Answer → Type 0
-Shows bytes work class words cells text class' words' text' c b (answers.Done n m k f) = OfHeld bytes work c (Answered class words cells text class' words' text' b n m k f)
-Shows bytes work class words cells text class' words' text' c b (answers.Refused x) = OfHeld bytes work c (λ P. (L : Lent) → LendsText L class words cells text → outcome L (show_run b.form b.value P) ≡ refuse x)
+abbrev pub Shows : (bytes work class words cells text class' words' text' : List ℕ) → Catalog → Budgets → Result (ℕ × ℕ × ℕ × Figures) Refusal → Type 0
+Shows bytes work class words cells text class' words' text' c b (Ok (n, m, k, f)) = OfHeld bytes work c (Answered class words cells text class' words' text' b n m k f)
+Shows bytes work class words cells text class' words' text' c b (Err x) = OfHeld bytes work c (λ P. (L : Lent) → LendsText L class words cells text → outcome L (show_run b.form b.value P) ≡ refuse x)
 
 -- ---- the definition's run, part by part
 module _ (L : Lent) (b : Budgets) (P : Pack) where
@@ -75,19 +73,19 @@ module _ (L : Lent) (b : Budgets) (P : Pack) where
 
 module _ (bytes work class words cells text : List ℕ) (c : Catalog) (b : Budgets) where
   -- no class is made
-  pub shows_unbuilt : (work' class' words' cells' text' : List ℕ) (x : Refusal) → BuildsClasses bytes work class words cells work' class' words' cells' c (made.Refused x) → Shows bytes work class words cells text class' words' text' c b (answers.Refused x)
+  pub shows_unbuilt : (work' class' words' cells' text' : List ℕ) (x : Refusal) → BuildsClasses bytes work class words cells work' class' words' cells' c (Err x) → Shows bytes work class words cells text class' words' text' c b (Err x)
   shows_unbuilt work' class' words' cells' text' x M = λ P R Q L l. run-refused L b P x (run-unbuilt L P x (M P R Q L l.lends))
 
   -- all are
-  module _ (work' class' words' cells' text' : List ℕ) (s : Building) (r : Counts) (sums : Counted) (M : BuildsClasses bytes work class words cells work' class' words' cells' c (made.Made s r sums)) where
+  module _ (work' class' words' cells' text' : List ℕ) (s : Building) (r : Counts) (sums : Counted) (M : BuildsClasses bytes work class words cells work' class' words' cells' c (Ok (s, r, sums))) where
     by_refusal : (P : Pack) (D : MadeAll bytes class words cells work' class' words' cells' s r sums P) (y : Refusal) → Refusing P D.built b text y
         → (L : Lent) → LendsText L class words cells text → outcome L (show_run b.form b.value P) ≡ refuse y
     by_refusal P D y (unmet u) L l = run-refused L b P y (run_untested L P D.built (D.is L l.lends) y (u L))
     by_refusal P D y (short rs u h e) L l =
         run_short L b P (record { pack = P; built = D.built; roots = rs }) (run-done L P D.built (D.is L l.lends) rs (u L)) (omega (arith, h, l.text_long)) ∙ ap refuse (sym e)
 
-    pub shows_ended : (a : Answer) → EndsShown (lent bytes class' words' cells' work') text text' s r sums b a → length text' ≡ length text → Shows bytes work class words cells text class' words' text' c b a
-    shows_ended (answers.Done n m k f) N same = λ P R Q.
+    pub shows_ended : (a : Result (ℕ × ℕ × ℕ × Figures) Refusal) → EndsShown (lent bytes class' words' cells' work') text text' s r sums b a → length text' ≡ length text → Shows bytes work class words cells text class' words' text' c b a
+    shows_ended (Ok (n, m, k, f)) N same = λ P R Q.
         let D = M.1 P R Q in
         let W = D.ended.standing in
         let G = N.3 P D.built D.ended in
@@ -105,4 +103,4 @@ module _ (bytes work class words cells text : List ℕ) (c : Catalog) (b : Budge
           long = G.long;
           counted = G.counted;
         }
-    shows_ended (answers.Refused y) N same = λ P R Q L l. let D = M.1 P R Q in by_refusal P D y (N P D.built D.ended) L l
+    shows_ended (Err y) N same = λ P R Q L l. let D = M.1 P R Q in by_refusal P D y (N P D.built D.ended) L l

@@ -21,13 +21,8 @@ pub struct Form {
 pub fn on_ground(s: Source) -> Source
     ensures { result ≡ ground_of s }
 {
-    let catalog = s.catalog;
-    let store = s.store;
     Source {
-        catalog: catalog,
-        index: s.index,
-        end: s.end,
-        store: store,
         is_ground: true,
+        ..s
     }
 }

@@ -6,8 +6,9 @@ ghost use Rattle.text_goals.specs.OneShown.{ShowsOne};
 
 use crate::form::Form;
 use crate::lines::write_goal;
-use class_build::goal::{Goal, Testing, test_goal};
+use class_build::goal::{Testing, test_goal};
 use class_premises::building::Building;
+use definition::Refusal;
 use memo::memo::Memo;
 use term_instance::tables::Instance;
 use text_write::source::Source;
@@ -19,39 +20,30 @@ pub struct Budgets {
     pub value: u64,
 }
 
-// The goal is met and shown: the memos as they are then, and where the text ends. Or it has no result, or one with another judgment; or
-// the judgment of the result's step is no instance of its class's conclusion.
-#[derive(Clone, Copy)]
-pub enum Shown {
-    On(Memo, Memo, usize),
-    Unmet,
-    Other(usize),
-}
-
 // Where the lines of a goal are read whose class has its row at `row`.
 fn form(s: Building, t: Instance, values: Memo, row: usize, budget: u64) -> Form
     ensures { result ≡ form_of s t values row budget }
 {
-    let catalog = s.catalog;
-    let store = s.store;
     let patterns = Source {
-        catalog: catalog,
+        catalog: s.catalog,
         index: t.index,
         end: t.pairs,
-        store: store,
+        store: s.store,
         is_ground: false,
     };
     Form {
-        patterns: patterns,
+        patterns,
         values: t.values,
         stack: t.end,
         memo: values,
-        row: row,
-        budget: budget,
+        row,
+        budget,
     }
 }
 
-// Goal `g` is tested, and its lines are put behind a text that ends at `at`.
+// Goal `g` is tested, and its lines are put behind a text that ends at `at`: the memos as they are then, and where the text ends. It is
+// refused if it has no result, or one with another judgment, or if the judgment of the result's step is no instance of its class's
+// conclusion.
 pub fn show_goal(
     pack: &[u8],
     work: &mut [u32],
@@ -63,19 +55,14 @@ pub fn show_goal(
     b: Budgets,
     at: usize,
     g: usize,
-) -> Shown
+) -> Result<(Memo, Memo, usize), Refusal>
     requires { Showable pack.now work.old class.now words.now s t.tables t.seen t.values × (g < length (records_of work.old s.catalog 5)) }
     ensures { ShowsOne pack.now work.old work.new class.now words.now text.old text.new s t.tables b at g result }
 {
-    match test_goal(
+    let (seen, values, row) = test_goal(
         pack, work, class, words, s.catalog, s.keying, s.layout, s.store, t, g,
-    ) {
-        Goal::Met(seen, values, row) => {
-            let f = form(s, t.tables, values, row, b.value);
-            let end = write_goal(pack, work, class, words, text, f, b.form, at, g);
-            Shown::On(seen, values, end)
-        }
-        Goal::Unmet => Shown::Unmet,
-        Goal::Other(step) => Shown::Other(step),
-    }
+    )?;
+    let f = form(s, t.tables, values, row, b.value);
+    let end = write_goal(pack, work, class, words, text, f, b.form, at, g);
+    Ok((seen, values, end))
 }

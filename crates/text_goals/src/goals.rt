@@ -3,23 +3,16 @@ ghost use Rattle.text_goals.specs.Showable.{Showable};
 ghost use Rattle.text_goals.specs.EachShown.{ShowsEach};
 ghost use Rattle.text_goals.specs.AllShown.{Starting, ShowsAll};
 
-use crate::goal::{Budgets, Shown, show_goal};
+use crate::goal::{Budgets, show_goal};
 use class_build::goal::Testing;
 use class_premises::building::Building;
+use definition::Refusal;
 use memo::part::begin;
 use pack_tables::catalog::Catalog;
 use term_instance::tables::Instance;
 
-// All goals are met and shown, and the text ends there; or goal i has no result, or one with another judgment; or the judgment of the
-// result's step s is no instance of its class's conclusion.
-#[derive(Clone, Copy)]
-pub enum Goals {
-    Shown(usize),
-    Unmet(usize),
-    Other(usize),
-}
-
-// The first goal that is not met is the answer. A text that has no room is gone through all the same: a goal's refusal comes ahead of it.
+// All goals shown, and where the text ends: the first goal that is not met is refused. A text that has no room is gone through all the
+// same: a goal's refusal comes ahead of it.
 pub fn show_each(
     pack: &[u8],
     work: &mut [u32],
@@ -29,7 +22,7 @@ pub fn show_each(
     s: Building,
     t: Testing,
     b: Budgets,
-) -> Goals
+) -> Result<usize, Refusal>
     requires { Showable pack.now work.old class.now words.now s t.tables t.seen t.values }
     ensures { ShowsEach pack.now work.old work.new class.now words.now text.old text.new s t.tables b result }
 {
@@ -38,32 +31,18 @@ pub fn show_each(
     let mut seen = t.seen;
     let mut values = t.values;
     let mut at: usize = 0;
-    let mut g: usize = 0;
-    while g < goals {
+    for g in 0..goals {
         let now = Testing {
-            tables: tables,
-            seen: seen,
-            values: values,
+            tables,
+            seen,
+            values,
         };
-        match show_goal(pack, work, class, words, text, s, now, b, at, g) {
-            Shown::On(m, v, end) => {
-                seen = m;
-                values = v;
-                at = end;
-            }
-            Shown::Unmet => {
-                return Goals::Unmet(g);
-            }
-            Shown::Other(step) => {
-                return Goals::Other(step);
-            }
-        }
-        g += 1;
+        (seen, values, at) = show_goal(pack, work, class, words, text, s, now, b, at, g)?;
     }
-    Goals::Shown(at)
+    Ok(at)
 }
 
-// The instance test's tables are begun, then each goal is shown; the words of the tables may hold anything before.
+// The instance test's tables are begun, then each goal is shown, and where the text ends; the words of the tables may hold anything before.
 pub fn show_goals(
     pack: &[u8],
     work: &mut [u32],
@@ -73,19 +52,16 @@ pub fn show_goals(
     s: Building,
     t: Instance,
     b: Budgets,
-) -> Goals
+) -> Result<usize, Refusal>
     requires { Starting pack.now work.old class.now words.now s t }
     ensures { ShowsAll pack.now work.old work.new class.now words.now text.old text.new s t b result }
 {
-    let from = t.seen;
-    let mid = t.values;
-    let to = t.end;
-    let seen = begin(work, from, mid);
-    let values = begin(work, mid, to);
+    let seen = begin(work, t.seen, t.values);
+    let values = begin(work, t.values, t.end);
     let at = Testing {
         tables: t,
-        seen: seen,
-        values: values,
+        seen,
+        values,
     };
     show_each(pack, work, class, words, text, s, at, b)
 }

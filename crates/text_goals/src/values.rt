@@ -6,7 +6,6 @@ ghost use Rattle.text_goals.specs.Lines.{Kinds, PutsKind, WritesLine, WritesVari
 use crate::form::{Form, on_ground};
 use base::id::Ground;
 use class_premises::row::{Row, row_variables};
-use memo::memo::Known;
 use memo::part::get;
 use pack_read::node::node_sort;
 use text_write::name::put_sort;
@@ -77,8 +76,8 @@ fn write_variable(
     let from = f.values;
     let to = f.stack;
     match get(work, from, to, f.memo, k) {
-        Known::Value(n) => write_line(pack, work, class, words, text, f, at, k, Ground(n)),
-        Known::Nothing => at,
+        Some(n) => write_line(pack, work, class, words, text, f, at, k, Ground(n)),
+        None => at,
     }
 }
 
@@ -97,10 +96,8 @@ pub fn write_variables(
 {
     let n = row_variables(class, f.row);
     let mut end = at;
-    let mut k: usize = 0;
-    while k < n {
+    for k in 0..n {
         end = write_variable(pack, work, class, words, text, f, end, k);
-        k += 1;
     }
     end
 }

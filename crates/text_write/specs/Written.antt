@@ -1,10 +1,11 @@
 -- A text in a lent buffer, written from its front on.
+use Rattle.std.specs.Prelude.{Some, None}
 use Rattle.std.specs.Prelude.{◌≡◌, refl, List, [], ◌∷◌, ◌++◌, ℕ, suc, ◌+◌, ◌/◌, ◌%◌, ◌≤◌, ◌<◌, length, get_or, take, set}
 use Rattle.std.proofs.Common.{sym, ap, ◌∙◌, subst, append_assoc, append-nil, arith, length-append, take-suc}
 use Rattle.std.proofs.Math.Decide.{dec_le, dec_lt}
 use Rattle.definition.specs.Decimal.{decimal, decimal_few, decimal-more}
+use Rattle.base.specs.Part.{put, put-none}
 use Rattle.buffer.specs.Text.{Wrote, write, over, take-over, length_over, over-one, wrote_end, wrote_short}
-use Rattle.buffer.specs.declared.decimal.Put.TheVariants.{End, Short}
 
 -- the end of a text that is longer than its buffer
 abbrev pub nowhere : ℕ
@@ -58,6 +59,15 @@ adds-fits t at bs some room small = record {
   on = omega arith;
 }
 
+-- whole bytes that stand in place of as many others
+pub adds_copied : (t : List ℕ) (at n : ℕ) (bs ys : List ℕ) → n ≡ length bs → ys ≡ bs → at + length bs ≤ length t → length t ≤ nowhere → Adds t (put at n ys t) at bs (at + length bs)
+unfolding over
+adds_copied t at n [] ys m q room small =
+    let e : put at n ys t ≡ t = rw (m, q) (put-none at t) in
+    let k : at + 0 ≡ at = omega arith in
+    subst (λ (u : List ℕ). Adds t u at [] (at + 0)) (sym e) (subst (λ (r : ℕ). Adds t t at [] r) (sym k) (adds_none t at))
+adds_copied t at n (b ∷ bs) ys m q room small = rw (m, q) (adds-fits t at (b ∷ bs) (omega arith) room small)
+
 -- bytes that have none are not
 pub adds_short : (t : List ℕ) (at : ℕ) (bs : List ℕ) → length t < at + length bs → at ≤ nowhere → Adds t t at bs nowhere
 adds_short t at bs room small = record {
@@ -71,12 +81,12 @@ adds_short t at bs room small = record {
 }
 
 -- a number's digits, or whatever else is written whole or not at all
-pub adds-end : (t : List ℕ) (at : ℕ) (bs : List ℕ) (e : ℕ) (u : List ℕ) → 0 < length bs → length t ≤ nowhere → ◌≡◌ {A = Wrote} (record { answer = End e; text = u }) (write t at bs) → Adds t u at bs e
+pub adds-end : (t : List ℕ) (at : ℕ) (bs : List ℕ) (e : ℕ) (u : List ℕ) → 0 < length bs → length t ≤ nowhere → ◌≡◌ {A = Wrote} (record { answer = Some e; text = u }) (write t at bs) → Adds t u at bs e
 adds-end t at bs e u some small w =
     let p = wrote_end t at bs e u w in
     subst (λ (v : List ℕ). Adds t v at bs e) (sym p.2) (subst (Adds t (over at bs t) at bs) (sym p.0) (adds-fits t at bs some (omega (arith, p.0, p.1)) small))
 
-pub adds-none-left : (t : List ℕ) (at : ℕ) (bs u : List ℕ) → at ≤ nowhere → ◌≡◌ {A = Wrote} (record { answer = Short; text = u }) (write t at bs) → Adds t u at bs nowhere
+pub adds-none-left : (t : List ℕ) (at : ℕ) (bs u : List ℕ) → at ≤ nowhere → ◌≡◌ {A = Wrote} (record { answer = None; text = u }) (write t at bs) → Adds t u at bs nowhere
 adds-none-left t at bs u small w = let p = wrote_short t at bs u w in subst (λ (v : List ℕ). Adds t v at bs nowhere) (sym p.1) (adds_short t at bs p.0 small)
 
 -- one byte

@@ -5,7 +5,7 @@ ghost use Rattle.definition.specs.Decimal.{decimal};
 ghost use Rattle.definition.specs.Shown.{ellipsis, variable_name};
 ghost use Rattle.text_write.specs.Written.{Adds};
 
-use buffer::decimal::{Put, put_decimal};
+use buffer::decimal::put_decimal;
 
 // Where a text ends.
 #[derive(Clone, Copy)]
@@ -28,16 +28,15 @@ pub fn put_byte(text: &mut [u8], at: usize, b: u8) -> usize
     Text::SHORT
 }
 
-// Bytes.
+// Bytes, all of them or, where there is no room for all, none.
 pub fn put_bytes(text: &mut [u8], at: usize, bytes: &[u8]) -> usize
     ensures { Adds text.old text.new at bytes.now result }
 {
-    let mut end = at;
-    let mut i: usize = 0;
-    while i < bytes.len() {
-        end = put_byte(text, end, bytes[i]);
-        i += 1;
+    if text.len() < at || text.len() - at < bytes.len() {
+        return Text::SHORT;
     }
+    let end = at + bytes.len();
+    text[at..end].copy_from_slice(bytes);
     end
 }
 
@@ -46,8 +45,8 @@ pub fn put_number(text: &mut [u8], at: usize, n: u64) -> usize
     ensures { Adds text.old text.new at (decimal n) result }
 {
     match put_decimal(text, at, n) {
-        Put::End(end) => end,
-        Put::Short => Text::SHORT,
+        Some(end) => end,
+        None => Text::SHORT,
     }
 }
 

@@ -25,9 +25,7 @@ pub fn head_of(pack: &[u8], work: &[u32], words: &[u32], s: Source, x: u32) -> u
     if s.is_ground {
         return node_head(pack, work, s.catalog, Ground(x));
     }
-    let a = s.index;
-    let e = s.end;
-    s.store.head(&work[a..e], words, Pattern(x))
+    s.store.head(&work[s.index..s.end], words, Pattern(x))
 }
 
 // How many arguments it has.
@@ -38,9 +36,7 @@ pub fn arity_of(pack: &[u8], work: &[u32], words: &[u32], s: Source, x: u32) -> 
     if s.is_ground {
         return node_arity(pack, work, s.catalog, Ground(x));
     }
-    let a = s.index;
-    let e = s.end;
-    s.store.arity(&work[a..e], words, Pattern(x))
+    s.store.arity(&work[s.index..s.end], words, Pattern(x))
 }
 
 // Its argument `i`; for a variable its number and its sort.
@@ -51,7 +47,6 @@ pub fn argument_of(pack: &[u8], work: &[u32], words: &[u32], s: Source, x: u32, 
     if s.is_ground {
         return node_argument(pack, work, s.catalog, Ground(x), i).0;
     }
-    let a = s.index;
-    let e = s.end;
-    s.store.argument(&work[a..e], words, Pattern(x), i)
+    s.store
+        .argument(&work[s.index..s.end], words, Pattern(x), i)
 }

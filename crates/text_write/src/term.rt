@@ -73,23 +73,23 @@ fn visit(
     if left == 0 {
         let end = put_ellipsis(text, p.at);
         return Point {
-            frames: frames,
             left: 0,
             at: end,
+            ..p
         };
     }
     match write_node(pack, work, words, text, s, p.at, x) {
         Shown::Whole(at) => Point {
-            frames: frames,
             left: left - 1,
-            at: at,
+            at,
+            ..p
         },
         Shown::Open(at) => {
             open_frame(work, stack, frames, x);
             Point {
                 frames: frames + 1,
                 left: left - 1,
-                at: at,
+                at,
             }
         }
     }
@@ -115,18 +115,14 @@ fn turn(
         let end = put_byte(text, p.at, b')');
         return Point {
             frames: top,
-            left: p.left,
             at: end,
+            ..p
         };
     }
     let y = argument_of(pack, work, words, s, x, taken as usize);
     take_argument(work, stack, top, taken);
     let end = put_byte(text, p.at, b' ');
-    let on = Point {
-        frames: p.frames,
-        left: p.left,
-        at: end,
-    };
+    let on = Point { at: end, ..p };
     visit(pack, work, words, text, s, stack, on, y)
 }
 
@@ -171,7 +167,7 @@ pub fn write_term(
     let start = Point {
         frames: 0,
         left: budget,
-        at: at,
+        at,
     };
     let p = visit(pack, work, words, text, s, stack, start, x);
     finish(pack, work, words, text, s, stack, p)

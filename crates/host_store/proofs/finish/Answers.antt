@@ -7,4 +7,4 @@ returns c =
     let a = c.args in
     let S = c.requires.0 in
     finished a.index.now a.words.now a.numbers.now a.st a.n S c.requires.1 _ _ (c.len.ensures _ _ S) (c.used.ensures _ _ S) _ _ _
-    c.zero_words.ensures c.zero_words_from.ensures c.zero_words_from-2.ensures
+    (c.fill.ensures.after (λ y e. e)) c.fill_from.ensures c.fill_from-2.ensures

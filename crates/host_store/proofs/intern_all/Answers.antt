@@ -12,19 +12,19 @@ pub intern_nodes-requires : goal.intern_nodes-requires
 intern_nodes-requires c = fit _ _ (sym c.lengths_unfit.ensures ∙ c.if-lengths_unfit.false)
 
 pub finish-requires : goal.finish-requires
-finish-requires c = let R = c.in-Done.ensures in (R.0, R.1.filled)
+finish-requires c = let R = c.in-Some.ensures in (R.0, R.1.filled)
 
-pub returns-in-Done : goal.returns-in-Done
-returns-in-Done c =
+pub returns-in-Some : goal.returns-in-Some
+returns-in-Some c =
     let a = c.args in
     let k = c.intern_nodes.auto in
-    let R = c.in-Done.ensures in
+    let R = c.in-Some.ensures in
     c.finish.ensures ∙ tried-done a.from.now _ _ _ (sym c.lengths_unfit.ensures ∙ c.if-lengths_unfit.false) _ _ _ k.index k.words k.numbers _ _ R
 
-pub returns-in-Short : goal.returns-in-Short
-returns-in-Short c =
+pub returns-in-None : goal.returns-in-None
+returns-in-None c =
     let a = c.args in
     let k = c.intern_nodes.auto in
     let l = c.intern_nodes.new in
-    let R = c.in-Short.ensures in
-    c.refuse-in-Short.ensures ∙ tried_short a.from.now _ _ _ (sym c.lengths_unfit.ensures ∙ c.if-lengths_unfit.false) l.index l.words l.numbers k.index k.words k.numbers R
+    let R = c.in-None.ensures in
+    c.refuse-in-None.ensures ∙ tried_short a.from.now _ _ _ (sym c.lengths_unfit.ensures ∙ c.if-lengths_unfit.false) l.index l.words l.numbers k.index k.words k.numbers R

@@ -9,12 +9,12 @@ returns-then-from-at c = (c.requires.0, over_read _ _ _ _ _ c.requires.1 (omega 
 pub intern-requires : goal.intern-requires
 intern-requires c = (c.requires.0, some_key c.args.from.now c.args.at _ (omega arith) c.node_end-end.ensures)
 
-pub returns-in-Id : goal.returns-in-Id
-returns-in-Id c =
-    let A = c.in-Id.ensures in
+pub returns-in-Some : goal.returns-in-Some
+returns-in-Some c =
+    let A = c.in-Some.ensures in
     (A.3, turned _ _ _ _ _ c.requires.1 c.requires.2 (omega arith) _ _ _ c.node_end-end.ensures A.0 A.1)
 
-pub returns-in-Short : goal.returns-in-Short
-returns-in-Short c =
-    let A = c.in-Short.ensures in
+pub returns-in-None : goal.returns-in-None
+returns-in-None c =
+    let A = c.in-None.ensures in
     rw A.2 (full _ _ _ _ _ c.requires.1 c.requires.2 (omega arith) _ _ c.node_end-end.ensures A.0)

@@ -3,6 +3,7 @@ use mathlib.Core.Path.{refl, sym, ◌∙◌}
 use Prim.Native.Nat.{◌+◌}
 use native.Mathlib.Omega.{arith}
 use lib.ListN.{get_or}
+use Rattle.host_unify.specs.Solved.{earlier}
 use Rattle.host_unify.specs.Turns.{app_broken, app_late, app_full, app_next}
 use Rattle.host_unify.proofs.read_app.Goals as goal
 
@@ -18,31 +19,20 @@ returns-then-terms-at c = app_broken _ _ _ _ _ c.requires.0 c.requires.1 c.requi
 pub push-requires : goal.push-requires
 push-requires c = c.requires.0.shows.laid
 
-pub shape_of-cells-in-At : goal.shape_of-cells-in-At
-shape_of-cells-in-At c = search
-
-pub shape_of-work-in-At : goal.shape_of-work-in-At
-shape_of-work-in-At c = search
-
-pub returns-in-At : goal.returns-in-At
-returns-in-At c =
+pub returns-then-not-all_below : goal.returns-then-not-all_below
+unfolding earlier
+returns-then-not-all_below c =
     let a = c.args in
-    let P = c.in-At.ensures in
-    app_next _ _ _ _ _ c.requires.0 c.requires.1 c.requires.2 (a.at + 2 + get_or a.terms.now (a.at + 1) 0) refl (omega arith) (sym c.all_earlier.ensures ∙ c.if-all_earlier.true) _ _ c.push.auto.cells _ _ P
+    app_late _ _ _ _ _ c.requires.0 c.requires.1 c.requires.2 (a.at + 2 + get_or a.terms.now (a.at + 1) 0) refl (omega arith) (sym c.all_below.ensures ∙ c.if-not-all_below.true)
 
-pub shape_of-cells-in-Short : goal.shape_of-cells-in-Short
-shape_of-cells-in-Short c = search
-
-pub shape_of-work-in-Short : goal.shape_of-work-in-Short
-shape_of-work-in-Short c = search
-
-pub returns-in-Short : goal.returns-in-Short
-returns-in-Short c =
+pub returns-in_default : goal.returns-in_default
+unfolding earlier
+returns-in_default c =
     let a = c.args in
-    let P = c.in-Short.ensures in
-    app_full _ _ _ _ _ c.requires.0 c.requires.1 c.requires.2 (a.at + 2 + get_or a.terms.now (a.at + 1) 0) refl (omega arith) (sym c.all_earlier.ensures ∙ c.if-all_earlier.true) c.push.new.cells c.push.new.table c.push.auto.cells P
+    app_full _ _ _ _ _ c.requires.0 c.requires.1 c.requires.2 (a.at + 2 + get_or a.terms.now (a.at + 1) 0) refl (omega arith) (sym c.all_below.ensures ∙ c.if-not-all_below.false) c.push.new.cells c.push.new.table c.push.auto.cells c.in_default.ensures
 
 pub returns : goal.returns
+unfolding earlier
 returns c =
     let a = c.args in
-    app_late _ _ _ _ _ c.requires.0 c.requires.1 c.requires.2 (a.at + 2 + get_or a.terms.now (a.at + 1) 0) refl (omega arith) (sym c.all_earlier.ensures ∙ c.if-all_earlier.false)
+    app_next _ _ _ _ _ c.requires.0 c.requires.1 c.requires.2 (a.at + 2 + get_or a.terms.now (a.at + 1) 0) refl (omega arith) (sym c.all_below.ensures ∙ c.if-not-all_below.false) _ _ c.push.auto.cells _ _ c.in-Some.ensures

@@ -15,39 +15,15 @@ read_node-requires c = let g = c.loop-at in (g.invariant.2, omega arith)
 
 pub loop-at-smaller : goal.loop-at-smaller
 loop-at-smaller c =
-    let T = c.in-Next.ensures in
+    let T = c.in_ok-h.ensures in
     omega (arith, T.1, T.0.within)
 
 pub loop-at-preserved : goal.loop-at-preserved
 loop-at-preserved c =
     let g = c.loop-at in
     let k = c.read_node.auto in
-    let T = c.in-Next.ensures in
+    let T = c.in_ok-h.ensures in
     (k.cells ∙ g.invariant.0, k.work ∙ g.invariant.1, T.0)
-
-pub shape_of-cells-in-Broken : goal.shape_of-cells-in-Broken
-shape_of-cells-in-Broken c = search
-
-pub shape_of-work-in-Broken : goal.shape_of-work-in-Broken
-shape_of-work-in-Broken c = search
-
-pub returns-in-Broken : goal.returns-in-Broken
-returns-in-Broken c = c.in-Broken.ensures
-
-pub shape_of-cells-in-Full : goal.shape_of-cells-in-Full
-shape_of-cells-in-Full c = search
-
-pub shape_of-work-in-Full : goal.shape_of-work-in-Full
-shape_of-work-in-Full c = search
-
-pub returns-in-Full : goal.returns-in-Full
-returns-in-Full c = c.in-Full.ensures
-
-pub shape_of-cells : goal.shape_of-cells
-shape_of-cells c = search
-
-pub shape_of-work : goal.shape_of-work
-shape_of-work c = search
 
 pub returns : goal.returns
 returns c = let g = c.loop-at in ended_there _ _ _ _ _ g.invariant.2 (omega arith)

@@ -9,24 +9,8 @@ returns-then-terms-at-lt4 c = var_broken _ _ _ _ _ c.requires.0 c.requires.1 c.r
 pub var-requires : goal.var-requires
 var-requires c = c.requires.0.shows.laid
 
-pub shape_of-cells-in-At : goal.shape_of-cells-in-At
-shape_of-cells-in-At c = search
+pub returns-in_default : goal.returns-in_default
+returns-in_default c = var_full _ _ _ _ _ c.requires.0 c.requires.1 c.requires.2 (omega arith) c.var.new.cells c.var.new.table c.var.auto.cells c.in_default.ensures
 
-pub shape_of-work-in-At : goal.shape_of-work-in-At
-shape_of-work-in-At c = search
-
-pub returns-in-At : goal.returns-in-At
-returns-in-At c =
-    let P = c.in-At.ensures in
-    var_next _ _ _ _ _ c.requires.0 c.requires.1 c.requires.2 (omega arith) _ _ c.var.auto.cells _ _ P
-
-pub shape_of-cells-in-Short : goal.shape_of-cells-in-Short
-shape_of-cells-in-Short c = search
-
-pub shape_of-work-in-Short : goal.shape_of-work-in-Short
-shape_of-work-in-Short c = search
-
-pub returns-in-Short : goal.returns-in-Short
-returns-in-Short c =
-    let P = c.in-Short.ensures in
-    var_full _ _ _ _ _ c.requires.0 c.requires.1 c.requires.2 (omega arith) c.var.new.cells c.var.new.table c.var.auto.cells P
+pub returns : goal.returns
+returns c = var_next _ _ _ _ _ c.requires.0 c.requires.1 c.requires.2 (omega arith) _ _ c.var.auto.cells _ _ c.in-Some.ensures

@@ -15,28 +15,28 @@ returns-then-stage-eq0 c = solves_none _ _ _ _ _ _ _ _ c.if-stage-eq0.true c.tel
 pub unify-requires : goal.unify-requires
 unify-requires c = let p = c.requires in (p.0, p.3, p.4, omega (arith, p.2))
 
-pub tell_joined-requires-in-Joined : goal.tell_joined-requires-in-Joined
-tell_joined-requires-in-Joined c =
+pub tell_joined-requires-in-Ok : goal.tell_joined-requires-in-Ok
+tell_joined-requires-in-Ok c =
     let p = c.requires in
-    let U = c.in-Joined.ensures in
+    let U = c.in-Ok.ensures in
     let u = U.0 p.0.0 p.0.1 p.0.2 in
     ((u.0, u.2, u.3), p.1, omega (arith, p.2, U.1.long))
 
-pub shape_of-work-in-Joined : goal.shape_of-work-in-Joined
-shape_of-work-in-Joined c = search
+pub shape_of-work-in-Ok : goal.shape_of-work-in-Ok
+shape_of-work-in-Ok c = search
 
 pub shape_of-roots : goal.shape_of-roots
 shape_of-roots c = search
 
-pub returns-in-Joined : goal.returns-in-Joined
-returns-in-Joined c =
-    let U = c.in-Joined.ensures in
-    solves_joined _ _ _ _ _ _ _ _ _ _ c.if-stage-eq0.false U c.tell_joined-in-Joined.ensures
+pub returns-in-Ok : goal.returns-in-Ok
+returns-in-Ok c =
+    let U = c.in-Ok.ensures in
+    solves_joined _ _ _ _ _ _ _ _ _ _ c.if-stage-eq0.false U c.tell_joined-in-Ok.ensures
 
-pub shape_of-work-in-Clash : goal.shape_of-work-in-Clash
-shape_of-work-in-Clash c = search
+pub shape_of-work-in-Err : goal.shape_of-work-in-Err
+shape_of-work-in-Err c = search
 
-pub returns-in-Clash : goal.returns-in-Clash
-returns-in-Clash c =
-    let U = c.in-Clash.ensures in
+pub returns-in-Err : goal.returns-in-Err
+returns-in-Err c =
+    let U = c.in-Err.ensures in
     solves_clash _ _ _ c.args.roots.now _ _ _ _ _ c.if-stage-eq0.false U c.requires.1.zeros

@@ -16,7 +16,7 @@ read_nodes-requires c = let a = c.args in fit a.cells.now a.work.now (sym c.leng
 pub ask-requires : goal.ask-requires
 ask-requires c =
     let s = c.args in
-    let R = c.in-Whole.ensures in
+    let R = c.in-Ok.ensures in
     let k = c.read_nodes.auto in
     let f = fit s.cells.now s.work.now (sym c.lengths_unfit.ensures ∙ c.if-lengths_unfit.false) in
     ((R.0, R.1, R.2), omega (arith, f.0, k.cells, k.work), c.requires)
@@ -24,37 +24,37 @@ ask-requires c =
 pub shape_of-roots : goal.shape_of-roots
 shape_of-roots c = search
 
-pub shape_of-cells-in-Whole : goal.shape_of-cells-in-Whole
-shape_of-cells-in-Whole c = search
+pub shape_of-cells-in-Ok : goal.shape_of-cells-in-Ok
+shape_of-cells-in-Ok c = search
 
-pub returns-in-Whole : goal.returns-in-Whole
-returns-in-Whole c =
+pub returns-in-Ok : goal.returns-in-Ok
+returns-in-Ok c =
     let s = c.args in
-    let R = c.in-Whole.ensures in
+    let R = c.in-Ok.ensures in
     solved-whole s.terms.now _ _ _ _ _ _ _ (sym c.lengths_unfit.ensures ∙ c.if-lengths_unfit.false) _ _ c.read_nodes.auto.cells _ R c.ask.ensures
 
-pub shape_of-cells-in-Broken : goal.shape_of-cells-in-Broken
-shape_of-cells-in-Broken c = search
+pub shape_of-cells-in-Err-Broken : goal.shape_of-cells-in-Err-Broken
+shape_of-cells-in-Err-Broken c = search
 
-pub shape_of-work-in-Broken : goal.shape_of-work-in-Broken
-shape_of-work-in-Broken c = search
+pub shape_of-work-in-Err-Broken : goal.shape_of-work-in-Err-Broken
+shape_of-work-in-Err-Broken c = search
 
-pub returns-in-Broken : goal.returns-in-Broken
-returns-in-Broken c =
+pub returns-in-Err-Broken : goal.returns-in-Err-Broken
+returns-in-Err-Broken c =
     let s = c.args in
-    let R = c.in-Broken.ensures in
+    let R = rw c.in-Err-Broken.field-0-is at c.in-Err-Broken.ensures in
     let l = c.read_nodes.new in
-    solved_broken s.terms.now _ _ _ _ _ _ _ (sym c.lengths_unfit.ensures ∙ c.if-lengths_unfit.false) l.cells l.work c.read_nodes.auto.cells R (refusal-told 2 _ s.roots.now c.refusal-in-Broken.ensures c.requires)
+    solved_broken s.terms.now _ _ _ _ _ _ _ (sym c.lengths_unfit.ensures ∙ c.if-lengths_unfit.false) l.cells l.work c.read_nodes.auto.cells R (refusal-told 2 _ s.roots.now c.refusal-in-Err-Broken.ensures c.requires)
 
-pub shape_of-cells-in-Full : goal.shape_of-cells-in-Full
-shape_of-cells-in-Full c = search
+pub shape_of-cells-in-Err-Full : goal.shape_of-cells-in-Err-Full
+shape_of-cells-in-Err-Full c = search
 
-pub shape_of-work-in-Full : goal.shape_of-work-in-Full
-shape_of-work-in-Full c = search
+pub shape_of-work-in-Err-Full : goal.shape_of-work-in-Err-Full
+shape_of-work-in-Err-Full c = search
 
-pub returns-in-Full : goal.returns-in-Full
-returns-in-Full c =
+pub returns-in-Err-Full : goal.returns-in-Err-Full
+returns-in-Err-Full c =
     let s = c.args in
-    let R = c.in-Full.ensures in
+    let R = rw c.in-Err-Full.field-0-is at c.in-Err-Full.ensures in
     let l = c.read_nodes.new in
-    solved-full s.terms.now _ _ _ _ _ _ _ (sym c.lengths_unfit.ensures ∙ c.if-lengths_unfit.false) l.cells l.work c.read_nodes.auto.cells R (refusal-told 3 _ s.roots.now c.refusal-in-Full.ensures c.requires)
+    solved-full s.terms.now _ _ _ _ _ _ _ (sym c.lengths_unfit.ensures ∙ c.if-lengths_unfit.false) l.cells l.work c.read_nodes.auto.cells R (refusal-told 3 _ s.roots.now c.refusal-in-Err-Full.ensures c.requires)

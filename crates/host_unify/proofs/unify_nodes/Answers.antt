@@ -4,7 +4,7 @@ use Rattle.host_unify.specs.Tells.{zeros-all, all_left}
 use Rattle.host_unify.proofs.unify_nodes.Goals as goal
 
 pub solve_list-answer-requires : goal.solve_list-answer-requires
-solve_list-answer-requires c = zeros-all (length c.args.roots.now) c.zero_words.new.words c.zero_words.ensures
+solve_list-answer-requires c = zeros-all (length c.args.roots.now) c.fill.new.self (c.fill.ensures.after (λ y e. e))
 
 pub shape_of-work : goal.shape_of-work
 shape_of-work c = search
@@ -14,4 +14,4 @@ returns c =
     let a = c.args in
     let k = c.solve_list-answer.auto in
     let l = c.solve_list-answer.new in
-    all_left a.terms.now a.x a.y a.stage _ _ _ a.cells.now a.work.now l.roots l.cells l.work _ _ c.zero_words.auto.words k.cells k.work c.solve_list-answer.ensures c.zero_words-2.ensures c.zero_words-3.ensures
+    all_left a.terms.now a.x a.y a.stage _ _ _ a.cells.now a.work.now l.roots l.cells l.work _ _ c.fill.auto.self k.cells k.work c.solve_list-answer.ensures (c.fill-2.ensures.after (λ y e. e)) (c.fill-3.ensures.after (λ y e. e))

@@ -3,12 +3,10 @@ use Rattle.list_records.specs.Lines.{cut_line}
 use Rattle.list_records.specs.Added.{added_wrote, added_then, added_short}
 use Rattle.list_records.proofs.put_cut.Goals as goal
 
-pub returns-in_default : goal.returns-in_default
+pub returns-in_err-a : goal.returns-in_err-a
 unfolding cut_line
-returns-in_default c = added_short _ _ _ _ _ _ c.in_default.ensures
+returns-in_err-a c = rw c.from_residual.ensures (added_short _ _ _ _ _ _ c.in_err-a.ensures)
 
 pub returns : goal.returns
 unfolding cut_line
-returns c =
-    let p = c.put_field in
-    added_then _ _ _ _ _ _ _ _ (rw c.in-End.is at p.ensures) p.auto.text (added_wrote _ _ _ _ _ c.put_bytes.ensures)
+returns c = added_then _ _ _ _ _ _ _ _ c.in_ok-a.ensures c.put_field.auto.text (added_wrote _ _ _ _ _ c.put_bytes.ensures)

@@ -3,21 +3,14 @@ use Rattle.list_records.specs.Lines.{line}
 use Rattle.list_records.specs.Added.{added_then, added_short}
 use Rattle.list_records.proofs.put_line.Goals as goal
 
-pub returns-in_default : goal.returns-in_default
+pub returns-in_err-a : goal.returns-in_err-a
 unfolding line
-returns-in_default c = added_short _ _ _ _ _ _ c.in_default.ensures
+returns-in_err-a c = rw c.from_residual.ensures (added_short _ _ _ _ _ _ c.in_err-a.ensures)
 
-pub returns-in_default-put_field : goal.returns-in_default-put_field
+pub returns-in_err-b : goal.returns-in_err-b
 unfolding line
-returns-in_default-put_field c =
-    let p = c.put_field in
-    let s = added_short _ _ _ _ _ _ c.in_default-put_field.ensures in
-    added_then _ _ _ _ _ _ _ _ (rw c.in-End.is at p.ensures) p.auto.text s
+returns-in_err-b c = rw c.from_residual-in_err-b.ensures (added_then _ _ _ _ _ _ _ _ c.in_ok-a.ensures c.put_field.auto.text (added_short _ _ _ _ _ _ c.in_err-b.ensures))
 
 pub returns : goal.returns
 unfolding line
-returns c =
-    let p = c.put_field in
-    let q = c.put_field-2 in
-    let s = added_then _ _ _ _ _ _ _ _ (rw c.in-End-put_field.is at q.ensures) q.auto.text c.put_field-3.ensures in
-    added_then _ _ _ _ _ _ _ _ (rw c.in-End.is at p.ensures) p.auto.text s
+returns c = added_then _ _ _ _ _ _ _ _ c.in_ok-a.ensures c.put_field.auto.text (added_then _ _ _ _ _ _ _ _ c.in_ok-b.ensures c.put_field-2.auto.text c.put_field-3.ensures)

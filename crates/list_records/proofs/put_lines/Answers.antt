@@ -14,23 +14,23 @@ loop-offset-init c = (search rules, search rules, search rules, refl)
 pub returns-in_default : goal.returns-in_default
 returns-in_default c =
     let g = c.loop-offset in
-    let e = rest-cut _ g.offset (omega arith) (sym c.record_at-found.ensures ∙ c.in_default.is) in
+    let e = rest-cut _ g.offset (omega arith) (sym c.record_at.ensures ∙ c.in_default.is) in
     added_whole _ _ _ _ _ _ _ (omega arith) g.invariant.2 (rw e at g.invariant.3) c.put_cut.ensures
 
-pub returns-in_default-put_line : goal.returns-in_default-put_line
-returns-in_default-put_line c =
+pub returns-in_err-at : goal.returns-in_err-at
+returns-in_err-at c =
     let g = c.loop-offset in
-    let e = rest-whole _ g.offset c.in-Whole.kind c.in-Whole.n (omega arith) (sym c.record_at-found.ensures ∙ c.in-Whole.is) in
-    added_whole _ _ _ _ _ _ _ (omega arith) g.invariant.2 (rw e at g.invariant.3) (added_short _ _ _ _ _ _ c.in_default-put_line.ensures)
+    let e = rest-whole _ g.offset c.in-Some.kind c.in-Some.n (omega arith) (sym c.record_at.ensures ∙ c.in-Some.is) in
+    rw c.from_residual.ensures (added_whole _ _ _ _ _ _ _ (omega arith) g.invariant.2 (rw e at g.invariant.3) (added_short _ _ _ _ _ _ c.in_err-at.ensures))
 
 pub loop-offset-preserved : goal.loop-offset-preserved
 loop-offset-preserved c =
     let g = c.loop-offset in
     let p = c.put_line in
-    let f = sym c.record_at-found.ensures ∙ c.in-Whole.is in
-    let e = rest-whole _ g.offset c.in-Whole.kind c.in-Whole.n (omega arith) f in
-    let q = added_left _ _ _ _ _ _ _ (rw e at g.invariant.3) (rw c.in-End.is at p.ensures) in
-    (whole-fits _ g.offset c.in-Whole.kind c.in-Whole.n (omega arith) f, q.0, p.auto.text ∙ g.invariant.2, q.1)
+    let f = sym c.record_at.ensures ∙ c.in-Some.is in
+    let e = rest-whole _ g.offset c.in-Some.kind c.in-Some.n (omega arith) f in
+    let q = added_left _ _ _ _ _ _ _ (rw e at g.invariant.3) c.in_ok-at.ensures in
+    (whole-fits _ g.offset c.in-Some.kind c.in-Some.n (omega arith) f, q.0, p.auto.text ∙ g.invariant.2, q.1)
 
 pub overflow_add-offset : goal.overflow_add-offset
 overflow_add-offset c = omega (arith, (loop-offset-preserved c).0)

@@ -11,8 +11,8 @@ use Rattle.check_steps.proofs.matching.rule_matches.Goals as goal
 pub rule_vars-vars-requires : goal.rule_vars-vars-requires
 rule_vars-vars-requires c = let p = c.requires in (readable _ _ _ p.0, omega (arith, p.1.rule, p.0.reads.rules.many))
 
-pub slice_bounds-zero_words-end : goal.slice_bounds-zero_words-end
-slice_bounds-zero_words-end c =
+pub slice_bounds-fill-end : goal.slice_bounds-fill-end
+slice_bounds-fill-end c =
     let p = c.requires in
     omega (arith, c.rule_vars-vars.ensures p.0.pack p.0.reads, (p.0.proper.good.rules _ p.1.rule).variables, p.2)
 
@@ -20,7 +20,7 @@ pub loop-next-init : goal.loop-next-init
 loop-next-init c =
     let p = c.requires in
     let n = c.rule_vars-vars.ensures p.0.pack p.0.reads in
-    (p.1.room, (at_first p.0.pack p.0.proper _ _ c.args.values.now _ p.1 p.2 _ c.zero_words.new.words n c.zero_words.ensures).slots, λ P R Q y. ([], at_first P Q _ _ c.args.values.now _ y c.requires.2 _ c.zero_words.new.words (c.rule_vars-vars.ensures P R) c.zero_words.ensures, refl))
+    (p.1.room, (at_first p.0.pack p.0.proper _ _ c.args.values.now _ p.1 p.2 _ c.fill.new.self n (c.fill.ensures.after (λ y e. e))).slots, λ P R Q y. ([], at_first P Q _ _ c.args.values.now _ y c.requires.2 _ c.fill.new.self (c.rule_vars-vars.ensures P R) (c.fill.ensures.after (λ y e. e)), refl))
 
 pub match_turn-requires : goal.match_turn-requires
 match_turn-requires c =

@@ -3,11 +3,11 @@ use Rattle.pack_read.specs.Held.{readable}
 use Rattle.check_steps.specs.Pushed.{node_recorded, arguments_none, arguments_left, arguments_room, arguments_more, arguments_all}
 use Rattle.check_steps.proofs.pending.push_arguments.Goals as goal
 
-pub node_arity-i-requires : goal.node_arity-i-requires
-node_arity-i-requires c = let p = c.requires in (readable _ _ _ p.0, node_recorded _ _ _ p.0 _ p.1)
+pub node_arity-arity-requires : goal.node_arity-arity-requires
+node_arity-arity-requires c = let p = c.requires in (readable _ _ _ p.0, node_recorded _ _ _ p.0 _ p.1)
 
 pub loop-i-init : goal.loop-i-init
-loop-i-init c = arguments_none _ _ _ _ _ _ _ c.requires.2 c.node_arity-i.ensures
+loop-i-init c = arguments_none _ _ _ _ _ _ _ c.requires.2 c.node_arity-arity.ensures
 
 pub node_argument-requires : goal.node_argument-requires
 node_argument-requires c =

@@ -4,6 +4,3 @@ use Rattle.check_steps.proofs.pending.push_arguments.Given as goal
 
 abbrev pub invariant-loop-i : goal.invariant-loop-i
 invariant-loop-i l = ArgumentsFrom l.pack l.work l.c l.n.0 l.i l.initial.stack l.initial.on l.stack l.on
-
-abbrev pub decreases-loop-i : goal.decreases-loop-i
-decreases-loop-i l = l.i

@@ -7,11 +7,11 @@ use Rattle.check_steps.proofs.pending.push_judgments.Goals as goal
 pub step_judgment-requires : goal.step_judgment-requires
 step_judgment-requires c = let p = c.requires in (readable _ _ _ p.0, step_recorded _ _ _ p.0 _ p.1)
 
-pub step_refs-k-requires : goal.step_refs-k-requires
-step_refs-k-requires c = let p = c.requires in (readable _ _ _ p.0, step_recorded _ _ _ p.0 _ p.1)
+pub step_refs-refs-requires : goal.step_refs-refs-requires
+step_refs-refs-requires c = let p = c.requires in (readable _ _ _ p.0, step_recorded _ _ _ p.0 _ p.1)
 
 pub loop-k-init : goal.loop-k-init
-loop-k-init c = judgments_own _ _ _ _ _ _ c.step_judgment.result.0 c.step_judgment.ensures c.step_refs-k.ensures _ c.push-on.result c.push-on.ensures.stack
+loop-k-init c = judgments_own _ _ _ _ _ _ c.step_judgment.result.0 c.step_judgment.ensures c.step_refs-refs.ensures _ c.push-on.result c.push-on.ensures.stack
 
 pub step_ref-r-requires : goal.step_ref-r-requires
 step_ref-r-requires c =

@@ -4,6 +4,3 @@ use Rattle.check_steps.proofs.pending.push_judgments.Given as goal
 
 abbrev pub invariant-loop-k : goal.invariant-loop-k
 invariant-loop-k l = JudgmentsFrom l.pack l.work l.c l.i l.k l.initial.stack l.stack l.on
-
-abbrev pub decreases-loop-k : goal.decreases-loop-k
-decreases-loop-k l = l.k

@@ -1,6 +1,7 @@
 -- `make_classes` meets its contract.
 use native.Mathlib.Omega.{arith}
-use Rattle.class_all.specs.All.{beginning_few, turned_none, turned_makes, turned_refused, turned_addable, turned_more, turned_all}
+use Rattle.std.proofs.lemmas.Result.{err_from_is_err_and}
+use Rattle.class_all.specs.All.{turned_none, turned_makes, turned_refused, turned_addable, turned_more, turned_all}
 use Rattle.class_all.proofs.all.make_classes.Goals as goal
 
 pub loop-i-init : goal.loop-i-init
@@ -15,37 +16,19 @@ make_class-requires c =
 pub add_counted-sums-requires : goal.add_counted-sums-requires
 add_counted-sums-requires c =
     let m = c.make_class in
-    turned_addable _ _ _ _ _ _ _ _ _ _ _ _ c.requires _ _ _ _ _ _ _ c.loop-i.invariant c.loop-i-test.true m.new.work m.new.class m.new.words m.new.cells c.in-Made.more c.in-Made.f (rw c.in-Made.is at m.ensures)
-
-pub overflow_add-i : goal.overflow_add-i
-overflow_add-i c = omega (arith, c.loop-i-test.true, beginning_few _ _ _ _ _ _ _ _ _ _ _ _ c.requires)
-
-pub loop-i-smaller : goal.loop-i-smaller
-loop-i-smaller c = omega (arith, c.loop-i-test.true)
+    turned_addable _ _ _ _ _ _ _ _ _ _ _ _ c.requires _ _ _ _ _ _ _ c.loop-i.invariant c.loop-i-test.true m.new.work m.new.class m.new.words m.new.cells _ _ c.in_ok-more.ensures
 
 pub loop-i-preserved : goal.loop-i-preserved
 loop-i-preserved c =
     let m = c.make_class in
-    let M = rw c.in-Made.is at m.ensures in
-    let N = turned_more _ _ _ _ _ _ _ _ _ _ _ _ c.requires _ _ _ _ _ _ _ c.loop-i.invariant c.loop-i-test.true m.new.work m.new.class m.new.words m.new.cells c.in-Made.more c.in-Made.f M m.auto.words m.auto.cells in
+    let N = turned_more _ _ _ _ _ _ _ _ _ _ _ _ c.requires _ _ _ _ _ _ _ c.loop-i.invariant c.loop-i-test.true m.new.work m.new.class m.new.words m.new.cells _ _ c.in_ok-more.ensures m.auto.words m.auto.cells in
     rw c.add_counted-sums.ensures N
 
-pub returns-in-Refused : goal.returns-in-Refused
-returns-in-Refused c =
+pub returns-in_err-more : goal.returns-in_err-more
+returns-in_err-more c =
     let m = c.make_class in
-    turned_refused _ _ _ _ _ _ _ _ _ _ _ _ c.requires _ _ _ _ _ _ _ c.loop-i.invariant c.loop-i-test.true m.new.work m.new.class m.new.words m.new.cells c.in-Refused.x (rw c.in-Refused.is at m.ensures)
-
-pub shape_of-work : goal.shape_of-work
-shape_of-work c = c.loop-i.invariant.places.long
-
-pub shape_of-class : goal.shape_of-class
-shape_of-class c = c.loop-i.invariant.rows.long
-
-pub shape_of-words : goal.shape_of-words
-shape_of-words c = c.loop-i.invariant.words_long
-
-pub shape_of-cells : goal.shape_of-cells
-shape_of-cells c = c.loop-i.invariant.cells_long
+    let e = err_from_is_err_and c.from_residual.result c.from_residual.ensures.1 in
+    rw (e.1, e.2) (turned_refused _ _ _ _ _ _ _ _ _ _ _ _ c.requires _ _ _ _ _ _ _ c.loop-i.invariant c.loop-i-test.true m.new.work m.new.class m.new.words m.new.cells _ c.in_err-more.ensures)
 
 pub returns : goal.returns
 returns c = turned_all _ _ _ _ _ _ _ _ _ _ _ _ c.requires _ _ _ _ _ _ _ c.loop-i.invariant (omega (arith, c.loop-i-test.false))

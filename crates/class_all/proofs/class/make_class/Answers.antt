@@ -18,15 +18,6 @@ step_predicate-p-requires c =
 pub make_cut-requires : goal.make_cut-requires
 make_cut-requires c = making-cut _ _ _ _ _ _ _ _ _ _ _ _ c.requires _ c.class_first-first.ensures _ c.step_is_cut.ensures c.if-step_is_cut.true _ c.step_predicate-p.ensures
 
-pub shape_of-work-then-step_is_cut : goal.shape_of-work-then-step_is_cut
-shape_of-work-then-step_is_cut c = search
-
-pub shape_of-class-then-step_is_cut : goal.shape_of-class-then-step_is_cut
-shape_of-class-then-step_is_cut c = search
-
-pub shape_of-words-then-step_is_cut : goal.shape_of-words-then-step_is_cut
-shape_of-words-then-step_is_cut c = search
-
 pub returns-then-step_is_cut : goal.returns-then-step_is_cut
 returns-then-step_is_cut c =
     let f = c.make_cut in
@@ -39,18 +30,6 @@ step_ruling-u-requires c =
 
 pub make_rule-requires : goal.make_rule-requires
 make_rule-requires c = making-rule _ _ _ _ _ _ _ _ _ _ _ _ c.requires _ c.class_first-first.ensures _ c.step_is_cut.ensures c.if-step_is_cut.false _ c.step_ruling-u.ensures.0 c.step_ruling-u.ensures.1
-
-pub shape_of-work : goal.shape_of-work
-shape_of-work c = search
-
-pub shape_of-class : goal.shape_of-class
-shape_of-class c = search
-
-pub shape_of-words : goal.shape_of-words
-shape_of-words c = search
-
-pub shape_of-cells : goal.shape_of-cells
-shape_of-cells c = search
 
 pub returns : goal.returns
 returns c =

@@ -9,4 +9,4 @@ new-st-requires c = index_enough _ _ _ c.requires
 
 pub returns : goal.returns
 unfolding part
-returns c = store_begun _ _ _ c.requires c.new-st.new.index _ _ c.new-st.auto.index c.new-st.ensures.0 c.new-st.ensures.1 c.clear.ensures
+returns c = store_begun _ _ _ c.requires c.new-st.new.index _ _ c.new-st.auto.index c.new-st.ensures.0 c.new-st.ensures.1 (rw c.lifting.ensures at c.clear.ensures)

@@ -3,16 +3,16 @@ use Rattle.class_build.specs.Goes.{classes_short, count_there, classes_begin, cl
 use Rattle.class_build.proofs.build.build_classes.Goals as goal
 
 pub count-fill-requires : goal.count-fill-requires
-count-fill-requires c = let m = c.make_ready in count_there _ _ _ _ _ _ m.new.work m.new.class _ _ _ _ _ m.auto.class (rw c.in-On.is at m.ensures) c.requires.0
+count-fill-requires c = let m = c.make_ready in count_there _ _ _ _ _ _ m.new.work m.new.class _ _ _ _ _ m.auto.class c.in-Some.ensures c.requires.0
 
 pub make_from-requires : goal.make_from-requires
-make_from-requires c = let m = c.make_ready in classes_begin _ _ _ _ _ _ m.new.work m.new.class _ _ _ _ _ m.auto.class (rw c.in-On.is at m.ensures) _ c.count-fill.ensures c.requires.0 c.requires.1 c.requires.2
+make_from-requires c = let m = c.make_ready in classes_begin _ _ _ _ _ _ m.new.work m.new.class _ _ _ _ _ m.auto.class c.in-Some.ensures _ c.count-fill.ensures c.requires.0 c.requires.1 c.requires.2
 
-pub returns-in-On : goal.returns-in-On
-returns-in-On c =
+pub returns : goal.returns
+returns c =
     let m = c.make_ready in
     let d = c.make_from in
-    classes_on _ _ _ _ _ _ m.new.work m.new.class _ _ _ _ _ m.auto.class (rw c.in-On.is at m.ensures) _ c.count-fill.ensures d.new.work d.new.class d.new.words d.new.cells d.result d.ensures
+    classes_on _ _ _ _ _ _ m.new.work m.new.class _ _ _ _ _ m.auto.class c.in-Some.ensures _ c.count-fill.ensures d.new.work d.new.class d.new.words d.new.cells d.result d.ensures
 
-pub returns-in-Short : goal.returns-in-Short
-returns-in-Short c = let m = c.make_ready in classes_short _ _ _ _ _ _ m.new.work m.new.class (rw c.in-Short.is at m.ensures) m.new.work m.new.class m.new.work m.new.work
+pub returns-in_default : goal.returns-in_default
+returns-in_default c = let m = c.make_ready in classes_short _ _ _ _ _ _ m.new.work m.new.class c.in_default.ensures m.new.work m.new.class m.new.work m.new.work

@@ -10,19 +10,19 @@ pub first_of-f-requires : goal.first_of-f-requires
 first_of-f-requires c =
     let p = c.requires in
     let a = c.args in
-    (p.0.ready.noted, answer_recorded _ _ _ _ _ _ _ _ _ a.g _ c.in-At.ensures _ _ p.0)
+    (p.0.ready.noted, answer_recorded _ _ _ _ _ _ _ _ _ a.g _ c.in-Some.ensures _ _ p.0)
 
 pub row_of-row-requires : goal.row_of-row-requires
 row_of-row-requires c =
     let p = c.requires in
     let a = c.args in
-    answer_asks _ _ _ _ _ _ _ _ _ a.g _ c.in-At.ensures _ _ p.0 _ c.first_of-f.ensures
+    answer_asks _ _ _ _ _ _ _ _ _ a.g _ c.in-Some.ensures _ _ p.0 _ c.first_of-f.ensures
 
 pub row_conclusion-p-requires : goal.row_conclusion-p-requires
 row_conclusion-p-requires c =
     let p = c.requires in
     let a = c.args in
-    row_asks _ _ _ _ _ _ _ _ _ a.g _ c.in-At.ensures _ _ p.0 _ c.first_of-f.ensures _ c.row_of-row.ensures
+    row_asks _ _ _ _ _ _ _ _ _ a.g _ c.in-Some.ensures _ _ p.0 _ c.first_of-f.ensures _ c.row_of-row.ensures
 
 pub goal_judgment-m-requires : goal.goal_judgment-m-requires
 goal_judgment-m-requires c = let p = c.requires in (readable _ _ _ p.0.given.held, p.1)
@@ -31,26 +31,17 @@ pub instance-requires : goal.instance-requires
 instance-requires c =
     let p = c.requires in
     let a = c.args in
-    instance_asks _ _ _ _ _ _ _ _ _ a.g _ c.in-At.ensures _ _ p.0 _ c.first_of-f.ensures p.1 _ c.row_of-row.ensures _ c.row_conclusion-p.ensures _ c.goal_judgment-m.ensures
+    instance_asks _ _ _ _ _ _ _ _ _ a.g _ c.in-Some.ensures _ _ p.0 _ c.first_of-f.ensures p.1 _ c.row_of-row.ensures _ c.row_conclusion-p.ensures _ c.goal_judgment-m.ensures
 
-pub returns-in-Yes : goal.returns-in-Yes
-returns-in-Yes c =
+pub returns : goal.returns
+returns c =
     let a = c.args in
-    one-met _ _ _ _ _ _ _ _ _ a.g _ c.in-At.ensures _ _ _ _ c.first_of-f.ensures c.row_of-row.ensures c.row_conclusion-p.ensures c.goal_judgment-m.ensures c.requires.1 _ _ _ c.in-Yes.ensures
+    one-met _ _ _ _ _ _ _ _ _ a.g _ c.in-Some.ensures _ _ _ _ c.first_of-f.ensures c.row_of-row.ensures c.row_conclusion-p.ensures c.goal_judgment-m.ensures c.requires.1 _ _ _ c.in-Some-instance.ensures
 
-pub shape_of-work-in-Yes : goal.shape_of-work-in-Yes
-shape_of-work-in-Yes c = (returns-in-Yes c).0.outside.long
-
-pub returns-in-No : goal.returns-in-No
-returns-in-No c =
+pub returns-in_default-instance : goal.returns-in_default-instance
+returns-in_default-instance c =
     let a = c.args in
-    one-other _ _ _ _ _ _ _ _ _ a.g _ c.in-At.ensures _ _ _ _ c.first_of-f.ensures c.row_of-row.ensures c.row_conclusion-p.ensures c.goal_judgment-m.ensures _ c.in-No.ensures
+    one-other _ _ _ _ _ _ _ _ _ a.g _ c.in-Some.ensures _ _ _ _ c.first_of-f.ensures c.row_of-row.ensures c.row_conclusion-p.ensures c.goal_judgment-m.ensures _ c.in_default-instance.ensures
 
-pub shape_of-work-in-No : goal.shape_of-work-in-No
-shape_of-work-in-No c = (returns-in-No c).0.long
-
-pub returns-in-Nowhere : goal.returns-in-Nowhere
-returns-in-Nowhere c = let a = c.args in one-unmet _ _ _ _ _ _ _ _ _ a.g c.in-Nowhere.ensures
-
-pub shape_of-work-in-Nowhere : goal.shape_of-work-in-Nowhere
-shape_of-work-in-Nowhere c = (returns-in-Nowhere c).0.long
+pub returns-in_default : goal.returns-in_default
+returns-in_default c = let a = c.args in one-unmet _ _ _ _ _ _ _ _ _ a.g c.in_default.ensures

@@ -1,6 +1,7 @@
 -- `test_each` meets its contract: with each turn the goals left give the same answer.
 use native.Mathlib.Omega.{arith}
-use Rattle.class_build.specs.EachGoal.{going_none, going_testable, going_recorded, going_met, going_on, going_unmet, going_other}
+use Rattle.std.proofs.lemmas.Result.{err_from_is_err_and}
+use Rattle.class_build.specs.EachGoal.{going_none, going_testable, going_recorded, going_met, going_on, going_refused}
 use Rattle.class_build.proofs.goals_each.test_each.Goals as goal
 
 pub count-goals-requires : goal.count-goals-requires
@@ -15,28 +16,16 @@ test_goal-requires c =
     let G = c.loop-g.invariant.1 in
     (going_testable _ _ _ _ _ _ _ _ _ _ _ M _ _ _ _ G, going_recorded _ _ _ _ _ _ _ _ _ _ _ M _ _ _ _ G (omega (arith, c.loop-g-test.true, c.count-goals.ensures)))
 
-pub returns-in-Unmet : goal.returns-in-Unmet
-returns-in-Unmet c =
-    going_unmet _ _ _ _ _ _ _ _ _ _ _ c.requires _ _ _ _ c.loop-g.invariant.1 (omega (arith, c.loop-g-test.true, c.count-goals.ensures)) _ c.in-Unmet.ensures
-
-pub shape_of-work-in-Unmet : goal.shape_of-work-in-Unmet
-shape_of-work-in-Unmet c = (returns-in-Unmet c).0.long
-
-pub returns-in-Other : goal.returns-in-Other
-returns-in-Other c =
-    going_other _ _ _ _ _ _ _ _ _ _ _ c.requires _ _ _ _ c.loop-g.invariant.1 (omega (arith, c.loop-g-test.true, c.count-goals.ensures)) _ _ c.in-Other.ensures
-
-pub shape_of-work-in-Other : goal.shape_of-work-in-Other
-shape_of-work-in-Other c = (returns-in-Other c).0.long
+pub returns-in_err-seen : goal.returns-in_err-seen
+returns-in_err-seen c =
+    let e = err_from_is_err_and c.from_residual.result c.from_residual.ensures.1 in
+    rw (e.1, e.2) (going_refused _ _ _ _ _ _ _ _ _ _ _ c.requires _ _ _ _ c.loop-g.invariant.1 (omega (arith, c.loop-g-test.true, c.count-goals.ensures)) _ _ c.in_err-seen.ensures)
 
 pub loop-g-preserved : goal.loop-g-preserved
 loop-g-preserved c = (
   omega arith,
-  going_on _ _ _ _ _ _ _ _ _ _ _ c.requires _ _ _ _ c.loop-g.invariant.1 (omega (arith, c.loop-g-test.true, c.count-goals.ensures)) _ _ _ _ c.in-Met.ensures,
+  going_on _ _ _ _ _ _ _ _ _ _ _ c.requires _ _ _ _ c.loop-g.invariant.1 (omega (arith, c.loop-g-test.true, c.count-goals.ensures)) _ _ _ _ c.in_ok-seen.ensures,
 )
 
 pub returns : goal.returns
 returns c = going_met _ _ _ _ _ _ _ _ _ _ _ c.requires _ _ _ _ c.loop-g.invariant.1 (omega (arith, c.loop-g-test.false, c.count-goals.ensures))
-
-pub shape_of-work : goal.shape_of-work
-shape_of-work c = (returns c).0.outside.long

@@ -9,11 +9,11 @@ returns-then-class-count c = ready_short _ _ _ _ _ _ c.requires (omega (arith, c
 pub layout-l-requires : goal.layout-l-requires
 layout-l-requires c = ready_roomy _ _ c.args.class.now _ _ _ c.requires _ _ c.keying-k.ensures c.count-nodes.ensures
 
-pub key_steps-r-requires : goal.key_steps-r-requires
-key_steps-r-requires c = ready_keyable _ _ _ _ _ _ c.requires _ _ _ c.keying-k.ensures c.count-nodes.ensures c.layout-l.ensures (omega (arith, c.count.ensures, c.if-class-count.false))
+pub key_steps-counts-requires : goal.key_steps-counts-requires
+key_steps-counts-requires c = ready_keyable _ _ _ _ _ _ c.requires _ _ _ c.keying-k.ensures c.count-nodes.ensures c.layout-l.ensures (omega (arith, c.count.ensures, c.if-class-count.false))
 
-pub begin_store-st-requires : goal.begin_store-st-requires
-begin_store-st-requires c = ready_indexable _ _ c.args.class.now _ _ _ c.requires _ _ _ c.keying-k.ensures c.count-nodes.ensures c.layout-l.ensures (omega (arith, c.count.ensures, c.if-class-count.false)) _ c.key_steps-r.auto.work
+pub begin_store-store-requires : goal.begin_store-store-requires
+begin_store-store-requires c = ready_indexable _ _ c.args.class.now _ _ _ c.requires _ _ _ c.keying-k.ensures c.count-nodes.ensures c.layout-l.ensures (omega (arith, c.count.ensures, c.if-class-count.false)) _ c.key_steps-counts.auto.work
 
 pub returns : goal.returns
-returns c = let keyed = c.key_steps-r in ready_on _ _ _ _ _ _ c.requires _ _ _ c.keying-k.ensures c.count-nodes.ensures c.layout-l.ensures (omega (arith, c.count.ensures, c.if-class-count.false)) _ _ _ _ _ _ _ keyed.ensures.keyed keyed.ensures.frame keyed.ensures.classes c.begin_store-st.ensures c.begin-memo.ensures
+returns c = let keyed = c.key_steps-counts in ready_on _ _ _ _ _ _ c.requires _ _ _ c.keying-k.ensures c.count-nodes.ensures c.layout-l.ensures (omega (arith, c.count.ensures, c.if-class-count.false)) _ _ _ _ _ _ _ keyed.ensures.keyed keyed.ensures.frame keyed.ensures.classes c.begin_store-store.ensures c.begin-memo.ensures

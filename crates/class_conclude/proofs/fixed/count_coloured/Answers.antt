@@ -14,12 +14,6 @@ overflow_cast-x c =
 pub fixes-k-requires : goal.fixes-k-requires
 fixes-k-requires c = record { held = c.requires; node = c.loop-x-test.true }
 
-pub overflow_add-k : goal.overflow_add-k
-overflow_add-k c = let p = c.requires in record { fits = omega (arith, c.fixes-k.ensures.0, c.loop-x.invariant.few, asked_few _ _ _ _ _ (record { held = p; node = c.loop-x-test.true }), p.coloured.stands.shows.laid.small, c.loop-x-test.true) }
-
-pub loop-x-smaller : goal.loop-x-smaller
-loop-x-smaller c = omega (arith, c.loop-x-test.true)
-
 pub loop-x-preserved : goal.loop-x-preserved
 loop-x-preserved c = looked_on _ _ _ _ _ _ _ c.loop-x.invariant c.loop-x-test.true c.fixes-k.ensures
 

@@ -1,10 +1,6 @@
 -- `count_coloured` meets its contract.
-use Prim.Native.Nat.{◌-◌}
 use Rattle.class_conclude.specs.Fixed.{Looked}
 use Rattle.class_conclude.proofs.fixed.count_coloured.Given as goal
 
 abbrev pub invariant-loop-x : goal.invariant-loop-x
 invariant-loop-x l = Looked l.work l.cells l.t l.g l.x l.k
-
-abbrev pub decreases-loop-x : goal.decreases-loop-x
-decreases-loop-x l = l.g.nodes - l.x

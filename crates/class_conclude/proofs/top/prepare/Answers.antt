@@ -6,4 +6,4 @@ pub returns : goal.returns
 returns c =
     let a = c.args in
     let p = c.requires in
-    prepares a.work.now a.cells.now a.l a.before a.g p.0 p.1 p.2 p.3 c.zero_words.new.words (rw c.values_at.ensures at c.zero_words.ensures) _ (rw c.values_at.ensures at c.clear.ensures)
+    prepares a.work.now a.cells.now a.l a.before a.g p.0 p.1 p.2 p.3 c.fill.new.self (rw c.values_at.ensures at (c.fill.ensures.after (λ y e. e))) _ (rw c.values_at.ensures at c.clear.ensures)

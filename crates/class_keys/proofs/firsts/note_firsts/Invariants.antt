@@ -4,6 +4,3 @@ use Rattle.class_keys.proofs.firsts.note_firsts.Given as goal
 
 abbrev pub invariant-loop-s : goal.invariant-loop-s
 invariant-loop-s l = Noting l.pack l.initial.work l.c l.at l.s l.work
-
-abbrev pub decreases-loop-s : goal.decreases-loop-s
-decreases-loop-s l = l.s

@@ -1,21 +1,13 @@
 -- `write_key` meets its contract.
 use mathlib.Core.Path.{sym, ◌∙◌}
-use native.Mathlib.Omega.{arith}
-use lib.ListN.{length-set}
 use Rattle.class_keys.specs.Writing.{written-cut, written-rule}
 use Rattle.class_keys.proofs.key.write_key.Goals as goal
 
 pub step_is_cut-requires : goal.step_is_cut-requires
 step_is_cut-requires c = let A = c.requires.0 in (A.noted.placed.held, A.noted.placed.marks, A.given)
 
-pub bounds-key-0 : goal.bounds-key-0
-bounds-key-0 c = omega (arith, c.requires.1)
-
 pub step_predicate-requires : goal.step_predicate-requires
 step_predicate-requires c = let A = c.requires.0 in (A.noted.placed.held, A.given)
-
-pub bounds-key-1 : goal.bounds-key-1
-bounds-key-1 c = omega (arith, c.requires.1, length-set c.args.key.now 0 0)
 
 pub returns-then-step_is_cut : goal.returns-then-step_is_cut
 returns-then-step_is_cut c = let p = c.requires in written-cut _ _ _ _ _ _ p.0 c.args.key.now _ p.1 c.step_predicate.ensures (λ P R Q. sym (c.step_is_cut.ensures P R Q) ∙ c.if-step_is_cut.true)

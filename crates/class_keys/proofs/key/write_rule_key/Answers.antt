@@ -1,7 +1,5 @@
 -- `write_rule_key` meets its contract: with each turn one word more of the key stands there.
-use mathlib.Core.Path.{sym, ◌∙◌}
 use native.Mathlib.Omega.{arith}
-use lib.ListN.{length-set}
 use Rattle.pack_read.specs.Held.{readable}
 use Rattle.class_keys.specs.Writing.{writing_first, writing_left, writing_ref, writing_inside, writing_more, writing_all}
 use Rattle.class_keys.proofs.key.write_rule_key.Goals as goal
@@ -9,14 +7,8 @@ use Rattle.class_keys.proofs.key.write_rule_key.Goals as goal
 pub step_refs-n-requires : goal.step_refs-n-requires
 step_refs-n-requires c = let A = c.requires.0 in (readable _ _ _ A.noted.placed.held, A.given)
 
-pub bounds-key-0 : goal.bounds-key-0
-bounds-key-0 c = omega (arith, c.requires.1)
-
 pub step_rule-requires : goal.step_rule-requires
 step_rule-requires c = let A = c.requires.0 in (readable _ _ _ A.noted.placed.held, A.given)
-
-pub bounds-key-1 : goal.bounds-key-1
-bounds-key-1 c = omega (arith, c.requires.1, length-set c.args.key.now 0 1)
 
 pub loop-i-init : goal.loop-i-init
 loop-i-init c = let p = c.requires in writing_first _ _ _ _ _ _ p.0 _ c.step_refs-n.ensures c.args.key.now p.1 _ c.step_rule.ensures
@@ -33,17 +25,8 @@ offset_bounds-class-f c = omega (arith, writing_inside _ _ _ _ _ _ c.requires.0 
 pub bounds-class-f : goal.bounds-class-f
 bounds-class-f c = writing_inside _ _ _ _ _ _ c.requires.0 _ _ _ c.loop-i.invariant c.loop-i-test.true _ c.step_ref-r.ensures _ c.first_of-f.ensures
 
-pub bounds-key-i : goal.bounds-key-i
-bounds-key-i c = omega (arith, c.loop-i.invariant.long, c.loop-i.invariant.most, c.loop-i-test.true)
-
 pub loop-i-preserved : goal.loop-i-preserved
 loop-i-preserved c = writing_more _ _ _ _ _ _ c.requires.0 _ _ _ c.loop-i.invariant c.loop-i-test.true _ c.step_ref-r.ensures _ c.first_of-f.ensures
-
-pub overflow_add-result : goal.overflow_add-result
-overflow_add-result c = omega (arith, c.loop-i.invariant.most)
-
-pub shape_of-key : goal.shape_of-key
-shape_of-key c = c.loop-i.invariant.long ∙ sym c.requires.1
 
 pub returns : goal.returns
 returns c = writing_all _ _ _ _ _ _ c.requires.0 _ _ _ c.loop-i.invariant (omega (arith, c.loop-i-test.false))

@@ -29,8 +29,5 @@ bounds-marks-f c = omega (arith, first_inside _ _ _ _ c.requires.0 _ _ (ref-give
 pub loop-i-preserved : goal.loop-i-preserved
 loop-i-preserved c = (length-set c.loop-i.marks c.first_of-f.result 1 ∙ c.loop-i.invariant.0, λ P R Q. all-turn (first_of P) 0 (step_of P c.args.s).refs c.loop-i.marks c.loop-i.i _ (omega (arith, c.loop-i-test.true, c.step_refs-n.ensures P R)) (c.first_of-f.ensures P R Q ∙ ap (first_of P) (c.step_ref-r.ensures P R)) ∙ c.loop-i.invariant.1 P R Q)
 
-pub shape_of-marks : goal.shape_of-marks
-shape_of-marks c = c.loop-i.invariant.0
-
 pub returns : goal.returns
 returns c = λ P R Q. sym (all_end (first_of P) 0 (step_of P c.args.s).refs c.loop-i.marks c.loop-i.i (omega (arith, c.loop-i-test.false, c.step_refs-n.ensures P R))) ∙ c.loop-i.invariant.1 P R Q

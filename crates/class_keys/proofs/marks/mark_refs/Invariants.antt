@@ -1,7 +1,6 @@
 -- `mark_refs` meets its contract: what is left to be marked gives the whole.
 use mathlib.Core.Path.{◌≡◌}
 use mathlib.Core.List.{map}
-use Prim.Native.Nat.{◌-◌}
 use lib.ListN.{length, drop}
 use Rattle.definition.specs.Pack.{step_of}
 use Rattle.definition.specs.Keys.{first_of}
@@ -11,6 +10,3 @@ use Rattle.class_keys.proofs.marks.mark_refs.Given as goal
 
 abbrev pub invariant-loop-i : goal.invariant-loop-i
 invariant-loop-i l = (length l.marks ≡ length l.initial.marks) × OfHeld l.pack l.work l.c (λ P. mark_all l.marks (map (first_of P) (drop l.i (step_of P l.s).refs)) ≡ mark_all l.initial.marks (map (first_of P) (step_of P l.s).refs))
-
-abbrev pub decreases-loop-i : goal.decreases-loop-i
-decreases-loop-i l = l.n - l.i

@@ -24,17 +24,11 @@ result_step-s-requires c = (readable _ _ _ c.requires.0.placed.held, omega (arit
 pub first_of-f-requires : goal.first_of-f-requires
 first_of-f-requires c = (c.requires.0, result-given _ _ _ _ c.requires.0 _ _ (omega (arith, c.loop-i-test.true, c.count-n.ensures)) c.result_step-s.ensures)
 
-pub offset_bounds-marks-f : goal.offset_bounds-marks-f
-offset_bounds-marks-f c = omega (arith, first_inside _ _ _ _ c.requires.0 _ _ (result-given _ _ _ _ c.requires.0 _ _ (omega (arith, c.loop-i-test.true, c.count-n.ensures)) c.result_step-s.ensures) c.first_of-f.ensures, c.requires.1, c.loop-i.invariant.0)
-
 pub bounds-marks-f : goal.bounds-marks-f
 bounds-marks-f c = omega (arith, first_inside _ _ _ _ c.requires.0 _ _ (result-given _ _ _ _ c.requires.0 _ _ (omega (arith, c.loop-i-test.true, c.count-n.ensures)) c.result_step-s.ensures) c.first_of-f.ensures, c.requires.1, c.loop-i.invariant.0)
 
 pub loop-i-preserved : goal.loop-i-preserved
 loop-i-preserved c = (length-set c.loop-i.marks c.first_of-f.result 1 ∙ c.loop-i.invariant.0, λ P R Q. all-turn (λ (r : Result). first_of P r.step) no_result P.results c.loop-i.marks c.loop-i.i _ (omega (arith, c.loop-i-test.true, c.count-n.ensures, length_results _ _ P R)) (c.first_of-f.ensures P R Q ∙ ap (first_of P) (c.result_step-s.ensures P R)) ∙ c.loop-i.invariant.1 P R Q)
-
-pub shape_of-marks : goal.shape_of-marks
-shape_of-marks c = c.loop-i.invariant.0
 
 pub returns : goal.returns
 returns c = λ P R Q. sym (all_end (λ (r : Result). first_of P r.step) no_result P.results c.loop-i.marks c.loop-i.i (omega (arith, c.loop-i-test.false, c.count-n.ensures, length_results _ _ P R))) ∙ c.loop-i.invariant.1 P R Q

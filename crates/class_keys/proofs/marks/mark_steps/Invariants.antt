@@ -9,6 +9,3 @@ use Rattle.class_keys.proofs.marks.mark_steps.Given as goal
 
 abbrev pub invariant-loop-s : goal.invariant-loop-s
 invariant-loop-s l = (l.s ≤ length (records_of l.work l.c 4)) × (length l.marks ≡ length l.initial.marks) × OfHeld l.pack l.work l.c (λ P. mark_below l.s P l.marks ≡ mark_below (length P.steps) P l.initial.marks)
-
-abbrev pub decreases-loop-s : goal.decreases-loop-s
-decreases-loop-s l = l.s

@@ -10,28 +10,25 @@ pub search-requires : goal.search-requires
 search-requires c = (tabled _ _ _ _ _ _ _ c.requires.0, c.requires.1)
 
 pub join_class-requires : goal.join_class-requires
-join_class-requires c = old-room _ _ _ _ _ _ _ c.requires.0 c.requires.1 c.if-class-s-eq0.false _ c.in-Found.ensures
+join_class-requires c = old-room _ _ _ _ _ _ _ c.requires.0 c.requires.1 c.if-class-s-eq0.false _ c.in-Ok.ensures
 
 pub overflow_cast-class : goal.overflow_cast-class
-overflow_cast-class c = omega (arith, old_few _ _ _ _ _ _ _ c.requires.0 c.requires.1 c.if-class-s-eq0.false _ c.in-Found.ensures, (small _ _ _ _ _ _ _ c.requires.0).0)
+overflow_cast-class c = omega (arith, old_few _ _ _ _ _ _ _ c.requires.0 c.requires.1 c.if-class-s-eq0.false _ c.in-Ok.ensures, (small _ _ _ _ _ _ _ c.requires.0).0)
 
 pub overflow_add-result : goal.overflow_add-result
 overflow_add-result c = omega (arith, (small _ _ _ _ _ _ _ c.requires.0).0, (small _ _ _ _ _ _ _ c.requires.0).1, c.requires.1)
 
 pub begin_class-requires : goal.begin_class-requires
-begin_class-requires c = new-room _ _ _ _ _ _ _ c.requires.0 c.requires.1 c.if-class-s-eq0.false _ c.in-Free.ensures
+begin_class-requires c = new-room _ _ _ _ _ _ _ c.requires.0 c.requires.1 c.if-class-s-eq0.false _ c.in-Err.ensures
 
-pub overflow_cast-class-in-Free : goal.overflow_cast-class-in-Free
-overflow_cast-class-in-Free c = omega (arith, (new-room _ _ _ _ _ _ _ c.requires.0 c.requires.1 c.if-class-s-eq0.false _ c.in-Free.ensures).2)
+pub overflow_cast-class-in-Err : goal.overflow_cast-class-in-Err
+overflow_cast-class-in-Err c = omega (arith, (new-room _ _ _ _ _ _ _ c.requires.0 c.requires.1 c.if-class-s-eq0.false _ c.in-Err.ensures).2)
 
-pub overflow_add-result-in-Free : goal.overflow_add-result-in-Free
-overflow_add-result-in-Free c = omega (arith, (new-room _ _ _ _ _ _ _ c.requires.0 c.requires.1 c.if-class-s-eq0.false _ c.in-Free.ensures).2)
+pub overflow_add-result-in-Err-2 : goal.overflow_add-result-in-Err-2
+overflow_add-result-in-Err-2 c = omega (arith, (small _ _ _ _ _ _ _ c.requires.0).0, (small _ _ _ _ _ _ _ c.requires.0).1, c.requires.1)
 
-pub overflow_add-result-in-Free-2 : goal.overflow_add-result-in-Free-2
-overflow_add-result-in-Free-2 c = omega (arith, (small _ _ _ _ _ _ _ c.requires.0).0, (small _ _ _ _ _ _ _ c.requires.0).1, c.requires.1)
+pub returns-in-Ok : goal.returns-in-Ok
+returns-in-Ok c = rw c.join_class.ensures (turn-old _ _ _ _ _ _ _ c.requires.0 c.requires.1 c.if-class-s-eq0.false _ c.in-Ok.ensures)
 
-pub returns-in-Found : goal.returns-in-Found
-returns-in-Found c = rw c.join_class.ensures (turn-old _ _ _ _ _ _ _ c.requires.0 c.requires.1 c.if-class-s-eq0.false _ c.in-Found.ensures)
-
-pub returns-in-Free : goal.returns-in-Free
-returns-in-Free c = rw c.begin_class.ensures (turn-new _ _ _ _ _ _ _ c.requires.0 c.requires.1 c.if-class-s-eq0.false _ c.in-Free.ensures)
+pub returns-in-Err : goal.returns-in-Err
+returns-in-Err c = rw c.begin_class.ensures (turn-new _ _ _ _ _ _ _ c.requires.0 c.requires.1 c.if-class-s-eq0.false _ c.in-Err.ensures)

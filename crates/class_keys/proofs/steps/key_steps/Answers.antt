@@ -1,5 +1,4 @@
 -- `key_steps` meets its contract: with each turn one step more has its class.
-use mathlib.Core.Path.{◌∙◌}
 use native.Mathlib.Numerals.{add-one}
 use native.Mathlib.Omega.{arith}
 use Rattle.class_keys.specs.Keyed.{walked_none, walked_steps, walked_more, ended}
@@ -13,12 +12,6 @@ key_step-done-requires c = let B = c.begin-n.ensures in let W = c.loop-s.invaria
 
 pub loop-s-preserved : goal.loop-s-preserved
 loop-s-preserved c = let B = c.begin-n.ensures in rw (add-one c.loop-s.s) (walked_more _ _ _ _ _ _ _ B.state.keyable _ _ c.loop-s.invariant (omega (arith, c.loop-s-test.true, B.here)) _ _ _ c.key_step-done.ensures)
-
-pub shape_of-work : goal.shape_of-work
-shape_of-work c = c.loop-s.invariant.frame.long ∙ c.begin-n.ensures.frame.long
-
-pub shape_of-class : goal.shape_of-class
-shape_of-class c = c.loop-s.invariant.classes.long ∙ c.begin-n.ensures.classes.long
 
 pub returns : goal.returns
 returns c = let e = ended _ _ _ _ _ _ _ _ _ _ _ _ c.begin-n.ensures c.loop-s.invariant (omega (arith, c.loop-s-test.false)) in record { keyed = e.0; frame = e.1; classes = e.2 }

@@ -12,8 +12,5 @@ note_copy-on-requires c = let g = c.loop-k in going_noting _ _ _ _ _ c.requires 
 pub loop-k-preserved : goal.loop-k-preserved
 loop-k-preserved c = let g = c.loop-k in going_on _ _ _ _ _ c.requires _ _ _ g.invariant c.loop-k-test.true _ _ c.note_copy-on.ensures
 
-pub shape_of-work : goal.shape_of-work
-shape_of-work c = search
-
 pub returns : goal.returns
 returns c = let g = c.loop-k in going_done _ _ _ _ _ _ _ _ (omega arith) g.invariant

@@ -6,8 +6,5 @@ use Rattle.class_premises.proofs.copies.note_copy.Goals as goal
 pub returns-then-word-eq0 : goal.returns-then-word-eq0
 returns-then-word-eq0 c = let a = c.args in notes-none a.work.now _ _ _ c.if-word-eq0.true
 
-pub bounds-work-to : goal.bounds-work-to
-bounds-work-to c = let R = c.requires in omega (arith, R.room (omega arith))
-
 pub returns : goal.returns
 returns c = let a = c.args in notes-one a.work.now _ _ _ (omega arith) (c.requires.room (omega arith))

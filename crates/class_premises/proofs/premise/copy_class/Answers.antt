@@ -16,12 +16,6 @@ copy-requires c =
       omega (arith, c.row_conclusion-p.ensures, s.stands.stored),
     )
 
-pub shape_of-work : goal.shape_of-work
-shape_of-work c = search
-
-pub shape_of-cells : goal.shape_of-cells
-shape_of-cells c = search
-
 pub returns : goal.returns
 returns c =
     let a = c.args in

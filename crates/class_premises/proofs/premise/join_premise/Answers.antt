@@ -12,23 +12,17 @@ pub note_copies-noted-requires : goal.note_copies-noted-requires
 unfolding part
 note_copies-noted-requires c =
     let J = c.requires in
-    let U = c.in-Joined.ensures in
+    let U = c.in-Ok.ensures in
     rw c.copies_at.ensures (notes-room _ _ _ _ _ _ _ _ J _ U.1)
 
-pub returns-in-Joined : goal.returns-in-Joined
+pub returns : goal.returns
 unfolding part
-returns-in-Joined c =
+returns c =
     let J = c.requires in
-    let U = c.in-Joined.ensures in
+    let U = c.in-Ok.ensures in
     let N = rw c.copies_at.ensures at c.note_copies-noted.ensures in
     (refl, refl, refl, refl, joins_noted _ _ _ _ _ _ _ _ J _ U.1 _ _ N, joins_on _ _ _ _ _ _ _ _ J _ U.1 _ _ N _ U)
 
-pub shape_of-work-in-Clash : goal.shape_of-work-in-Clash
-shape_of-work-in-Clash c = search
-
-pub returns-in-Clash : goal.returns-in-Clash
+pub returns-in_default : goal.returns-in_default
 unfolding part
-returns-in-Clash c =
-    let a = c.args in
-    let U = c.in-Clash.ensures in
-    (refl, joins_clash a.work.now a.cells.now a.l _ _ _ _ _ U)
+returns-in_default c = let a = c.args in (refl, joins_clash a.work.now a.cells.now a.l _ _ _ _ _ c.in_default.ensures)

@@ -6,25 +6,13 @@ pub pass_terms-to-requires : goal.pass_terms-to-requires
 pass_terms-to-requires c = (c.requires.held, meeting_spelt _ _ _ _ _ _ _ _ _ c.requires)
 
 pub instantiate-requires : goal.instantiate-requires
-instantiate-requires c = meeting_asked _ _ _ _ _ _ _ _ _ c.requires _ c.pass_terms-to.ensures
+instantiate-requires c = rw c.place-place.ensures (meeting_asked _ _ _ _ _ _ _ _ _ c.requires _ c.pass_terms-to.ensures)
 
 pub join_premise-requires : goal.join_premise-requires
-join_premise-requires c = meeting_joining _ _ _ _ _ _ _ _ _ c.requires _ c.pass_terms-to.ensures _ _ _ _ c.in-At.ensures c.instantiate.auto.cells
+join_premise-requires c = meeting_joining _ _ _ _ _ _ _ _ _ c.requires _ c.pass_terms-to.ensures _ _ _ _ (rw c.place-place.ensures at c.in-Some.ensures) c.instantiate.auto.cells
 
-pub shape_of-work-in-At : goal.shape_of-work-in-At
-shape_of-work-in-At c = search
+pub returns : goal.returns
+returns c = meets-joined _ _ _ _ _ _ _ _ _ c.requires _ c.pass_terms-to.ensures _ _ _ _ (rw c.place-place.ensures at c.in-Some.ensures) c.instantiate.auto.cells c.join_premise.new.work c.join_premise.result c.join_premise.ensures
 
-pub shape_of-cells-in-At : goal.shape_of-cells-in-At
-shape_of-cells-in-At c = search
-
-pub returns-in-At : goal.returns-in-At
-returns-in-At c = meets-joined _ _ _ _ _ _ _ _ _ c.requires _ c.pass_terms-to.ensures _ _ _ _ c.in-At.ensures c.instantiate.auto.cells c.join_premise.new.work c.join_premise.result c.join_premise.ensures
-
-pub shape_of-work-in-Short : goal.shape_of-work-in-Short
-shape_of-work-in-Short c = search
-
-pub shape_of-cells-in-Short : goal.shape_of-cells-in-Short
-shape_of-cells-in-Short c = search
-
-pub returns-in-Short : goal.returns-in-Short
-returns-in-Short c = meets_short _ _ _ _ _ _ _ _ _ c.requires _ c.pass_terms-to.ensures c.instantiate.new.work c.instantiate.new.cells c.in-Short.ensures
+pub returns-in_default : goal.returns-in_default
+returns-in_default c = meets_short _ _ _ _ _ _ _ _ _ c.requires _ c.pass_terms-to.ensures c.instantiate.new.work c.instantiate.new.cells (rw c.place-place.ensures at c.in_default.ensures)

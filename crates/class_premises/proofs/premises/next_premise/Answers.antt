@@ -18,12 +18,6 @@ row_of-row-requires c =
 pub take_premise-requires : goal.take_premise-requires
 take_premise-requires c = premise_asked _ _ _ _ _ _ _ _ _ _ _ _ _ _ _ _ c.requires _ c.step_ref-r.ensures _ c.first_of-f.ensures _ c.row_of-row.ensures
 
-pub shape_of-work : goal.shape_of-work
-shape_of-work c = search
-
-pub shape_of-cells : goal.shape_of-cells
-shape_of-cells c = search
-
 pub returns : goal.returns
 returns c =
     let t = c.take_premise in

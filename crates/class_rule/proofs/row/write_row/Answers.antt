@@ -16,12 +16,6 @@ put_flexes-requires c =
     let n = c.class_count-count in
     writing_marks _ _ _ _ _ _ _ _ _ c.requires _ (omega (arith, n.ensures, c.slice_known-1.given (a.s.keying.at + 2 * a.s.keying.cap + a.i))) _ _ _ c.begin_row.ensures
 
-pub shape_of-work : goal.shape_of-work
-shape_of-work c = search
-
-pub shape_of-class : goal.shape_of-class
-shape_of-class c = search
-
 pub returns : goal.returns
 returns c =
     let a = c.args in

@@ -1,31 +1,14 @@
 -- `value_premises` meets its contract.
-use borrow.Author.Rules.{rules}
 use mathlib.Core.Path.{refl}
-use native.Mathlib.Omega.{arith}
 use Rattle.base.specs.Part.{part}
 use Rattle.class_solve.specs.Valuing.{holds_inner, colours_room, values-start, values_differ, values-given, values_outside, circle_told}
 use Rattle.class_solve.proofs.solve.value_premises.Goals as goal
-
-pub offset_bounds-work-at : goal.offset_bounds-work-at
-offset_bounds-work-at c = let S = c.requires.taken.here.standing.placed.laid in let h = S.table in let q = S.inside in search rules
-
-pub slice_bounds-circular-count : goal.slice_bounds-circular-count
-slice_bounds-circular-count c = let S = c.requires.taken.here.standing.placed.laid in omega (arith, S.table)
-
-pub slice_bounds-circular-start : goal.slice_bounds-circular-start
-slice_bounds-circular-start c = let S = c.requires.taken.here.standing.placed.laid in omega (arith, S.table)
-
-pub slice_bounds-circular-end : goal.slice_bounds-circular-end
-slice_bounds-circular-end c = let S = c.requires.taken.here.standing.placed.laid in omega (arith, S.inside)
 
 pub circular-requires : goal.circular-requires
 unfolding part
 circular-requires c =
     let W = c.requires in
     (holds_inner _ _ _ _ _ _ _ _ _ _ _ _ _ _ _ _ W.counts W.fill W.pack W.built W.refs W.state W.taken, colours_room _ _ _ _ _ _ _ _ _ _ _ _ _ _ _ _ W.counts W.fill W.pack W.built W.refs W.state W.taken)
-
-pub shape_of-work-then-circular : goal.shape_of-work-then-circular
-shape_of-work-then-circular c = search
 
 pub returns-then-circular : goal.returns-then-circular
 unfolding part

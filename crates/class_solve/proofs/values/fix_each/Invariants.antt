@@ -1,10 +1,6 @@
 -- `fix_each` meets its contract.
-use Prim.Native.Nat.{◌-◌}
 use Rattle.class_solve.specs.AllValues.{Going}
 use Rattle.class_solve.proofs.values.fix_each.Given as goal
 
 abbrev pub invariant-loop-i : goal.invariant-loop-i
 invariant-loop-i l = Going l.pack l.initial.work l.work l.cells l.c l.v l.g l.step l.n l.instances l.i
-
-abbrev pub decreases-loop-i : goal.decreases-loop-i
-decreases-loop-i l = l.n - l.i

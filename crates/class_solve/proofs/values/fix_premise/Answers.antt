@@ -11,8 +11,5 @@ step_judgment-n-requires c = judgment-asked _ _ _ _ _ _ _ _ _ c.requires _ c.ste
 pub fix-requires : goal.fix-requires
 fix-requires c = (c.requires.values, c.requires.node, node-asked _ _ _ _ _ _ _ _ _ c.requires _ c.step_ref-r.ensures _ c.step_judgment-n.ensures)
 
-pub shape_of-work : goal.shape_of-work
-shape_of-work c = search
-
 pub returns : goal.returns
 returns c = gives _ _ _ _ _ _ _ _ _ c.requires _ c.step_ref-r.ensures _ c.step_judgment-n.ensures c.fix.new.work c.fix.result c.fix.ensures

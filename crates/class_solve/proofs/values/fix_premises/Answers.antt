@@ -8,8 +8,5 @@ clear-requires c = (c.requires.placed, (c.requires.graph, c.requires.shows))
 pub fix_each-requires : goal.fix_each-requires
 fix_each-requires c = cleared-begun _ _ _ _ _ _ _ _ _ c.requires _ c.clear.ensures
 
-pub shape_of-work : goal.shape_of-work
-shape_of-work c = search
-
 pub returns : goal.returns
 returns c = gives_all _ _ _ _ _ _ _ _ _ c.requires _ c.clear.ensures c.fix_each.new.work c.fix_each.result c.fix_each.ensures

@@ -9,4 +9,4 @@ use Rattle.dock.proofs.check.cert_check.Goals as goal
 
 pub returns : goal.returns
 returns c =
-    let o = refusal_of c.check_outcome-outcome.result in record { answer = check_left _ _ o _ _ c.check_outcome-outcome.ensures c.outcome_answer.ensures (c.zero_words_from.ensures ∙ zeroed-all _ ∙ ap (λ (n : ℕ). replicate n 0) c.check_outcome-outcome.auto.work); statement = check_statement _ _ o _ c.check_outcome-outcome.ensures c.outcome_answer.ensures }
+    let o = refusal_of c.check_outcome-outcome.result in record { answer = check_left _ _ o _ _ c.check_outcome-outcome.ensures c.outcome_answer.ensures (c.fill_from.ensures ∙ zeroed-all _ ∙ ap (λ (n : ℕ). replicate n 0) c.check_outcome-outcome.auto.work); statement = check_statement _ _ o _ c.check_outcome-outcome.ensures c.outcome_answer.ensures }

@@ -2,4 +2,4 @@
 use Rattle.dock_call.proofs.leave.clear.Goals as goal
 
 pub returns : goal.returns
-returns c = record { class = c.zero_words_from.ensures; pattern = c.zero_words_from-2.ensures; graph = c.zero_words_from-3.ensures; work = c.zero_words_from-4.ensures }
+returns c = record { class = c.fill_from.ensures; pattern = c.fill_from-2.ensures; graph = c.fill_from-3.ensures; work = c.fill_from-4.ensures }

@@ -11,15 +11,15 @@ intern-requires c =
 
 pub prove_supposing-requires : goal.prove_supposing-requires
 prove_supposing-requires c =
-    let I = c.in-As.ensures in
+    let I = c.in-Ok.ensures in
     over-asked _ _ _ _ _ _ _ _ _ _ _ _ _ (front c.lay_key-n.result c.lay_key-n.new.key ∙ c.lay_key-n.ensures.1) _ _ I c.requires
 
-pub returns-in-As : goal.returns-in-As
-returns-in-As c =
-    let I = c.in-As.ensures in
+pub returns-in-Ok : goal.returns-in-Ok
+returns-in-Ok c =
+    let I = c.in-Ok.ensures in
     record { answer = over_on _ _ _ _ _ _ _ _ _ _ _ _ _ (front c.lay_key-n.result c.lay_key-n.new.key ∙ c.lay_key-n.ensures.1) _ _ I (lends _ _ _ _) _ c.prove_supposing.ensures.answer; line = c.prove_supposing.ensures.line }
 
-pub returns-in-Refused : goal.returns-in-Refused
-returns-in-Refused c =
-    let I = c.in-Refused.ensures in
+pub returns-in-Err : goal.returns-in-Err
+returns-in-Err c =
+    let I = c.in-Err.ensures in
     record { answer = over_short _ _ _ _ _ _ _ _ _ _ _ _ _ (front c.lay_key-n.result c.lay_key-n.new.key ∙ c.lay_key-n.ensures.1) _ I; line = tt }

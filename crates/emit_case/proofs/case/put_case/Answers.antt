@@ -1,5 +1,4 @@
 -- `put_case` meets its contract.
-use mathlib.Core.Path.{◌∙◌}
 use native.Mathlib.Omega.{arith}
 use lib.ListN.{length-set}
 use Rattle.emit_case.specs.Laying.{case_go, next-below, case_more, begun_long, case_end}
@@ -16,9 +15,6 @@ bounds-cases-from c = next-below _ _ _ _ _ _ c.loop-i.invariant c.loop-i-test.tr
 
 pub loop-i-preserved : goal.loop-i-preserved
 loop-i-preserved c = case_more _ _ _ _ _ _ c.loop-i.invariant c.loop-i-test.true
-
-pub shape_of-cases : goal.shape_of-cases
-shape_of-cases c = c.loop-i.invariant.long ∙ begun_long c.args.cases.now c.args.at c.args.last c.args.n
 
 pub returns : goal.returns
 returns c = case_end _ _ _ _ _ _ _ c.requires.1 c.loop-i.invariant c.loop-i-test.false

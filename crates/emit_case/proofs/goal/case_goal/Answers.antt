@@ -10,15 +10,15 @@ put_for-requires c = put-asked _ _ _ _ _ _ _ _ c.requires
 
 pub chain-requires : goal.chain-requires
 chain-requires c =
-    let F = puts_for ((c.in-As.ensures.grown, c.in-As.ensures.comes)) in
+    let F = puts_for ((c.in-Ok.ensures.grown, c.in-Ok.ensures.comes)) in
     (made-asked _ _ _ _ _ _ _ _ _ _ _ _ F c.requires, omega arith)
 
-pub returns-in-As : goal.returns-in-As
-returns-in-As c =
-    let F = puts_for ((c.in-As.ensures.grown, c.in-As.ensures.comes)) in
+pub returns-in-Ok : goal.returns-in-Ok
+returns-in-Ok c =
+    let F = puts_for ((c.in-Ok.ensures.grown, c.in-Ok.ensures.comes)) in
     record { answer = goal_on _ _ _ _ _ _ _ _ _ _ _ _ F (lends _ _ _ _) _ c.chain.ensures.answer; line = c.chain.ensures.line }
 
-pub returns-in-Refused : goal.returns-in-Refused
-returns-in-Refused c =
-    let F = puts_for ((c.in-Refused.ensures.grown, c.in-Refused.ensures.comes)) in
+pub returns-in-Err : goal.returns-in-Err
+returns-in-Err c =
+    let F = puts_for ((c.in-Err.ensures.grown, c.in-Err.ensures.comes)) in
     record { answer = goal_short _ _ _ _ _ _ _ _ _ _ _ F; line = tt }

@@ -1,5 +1,4 @@
 -- `prove_supposing` meets its contract.
-use mathlib.Core.Path.{◌∙◌}
 use native.Mathlib.Omega.{arith}
 use lib.ListN.{length}
 use Rattle.emit_state.specs.Holding.{lends}
@@ -10,14 +9,14 @@ pub suppose_each-requires : goal.suppose_each-requires
 suppose_each-requires c = let X = each_asked (lends _ _ _ _) _ _ _ _ _ c.requires in (X.0, c.requires.holds.recursive.few, X.1)
 
 pub case_goal-requires : goal.case_goal-requires
-case_goal-requires c = let F = c.in-All.ensures in goal-asked (lends _ _ _ _) _ _ _ _ _ (lends _ _ _ _) _ _ F c.requires
+case_goal-requires c = let F = c.in-Ok.ensures in goal-asked (lends _ _ _ _) _ _ _ _ _ (lends _ _ _ _) _ _ F c.requires
 
 pub slice_bounds-drop_hypotheses-end : goal.slice_bounds-drop_hypotheses-end
 slice_bounds-drop_hypotheses-end c = omega (arith, c.requires.holds.recursive.few, c.suppose_each.auto)
 
 pub drop_hypotheses-requires : goal.drop_hypotheses-requires
 drop_hypotheses-requires c =
-    let F = c.in-All.ensures in
+    let F = c.in-Ok.ensures in
     line_dropping (lends _ _ _ _) _ _ _ _ _ (lends _ _ _ _) _ _ F (lends _ _ _ _) _ (front (length c.args.rs.now) c.suppose_each.new.hs) _ _ c.in-Line.ensures.answer c.requires
 
 pub slice_bounds-drop_hypotheses-end-in-Fails : goal.slice_bounds-drop_hypotheses-end-in-Fails
@@ -25,41 +24,23 @@ slice_bounds-drop_hypotheses-end-in-Fails c = omega (arith, c.requires.holds.rec
 
 pub drop_hypotheses-requires-in-Fails : goal.drop_hypotheses-requires-in-Fails
 drop_hypotheses-requires-in-Fails c =
-    let F = c.in-All.ensures in
+    let F = c.in-Ok.ensures in
     fails_dropping (lends _ _ _ _) _ _ _ _ _ (lends _ _ _ _) _ _ F (lends _ _ _ _) _ (front (length c.args.rs.now) c.suppose_each.new.hs) _ c.in-Fails.ensures.answer c.requires
-
-pub shape_of-work-in-Line : goal.shape_of-work-in-Line
-shape_of-work-in-Line c = c.drop_hypotheses.auto.work ∙ c.case_goal.auto.work ∙ c.suppose_each.auto.work
-
-pub shape_of-words-in-Line : goal.shape_of-words-in-Line
-shape_of-words-in-Line c = c.case_goal.auto.words ∙ c.suppose_each.auto.words
-
-pub shape_of-proof-in-Line : goal.shape_of-proof-in-Line
-shape_of-proof-in-Line c = c.case_goal.auto.proof ∙ c.suppose_each.auto.proof
 
 pub returns-in-Line : goal.returns-in-Line
 returns-in-Line c =
-    let F = c.in-All.ensures in
+    let F = c.in-Ok.ensures in
     record { answer = under-line (lends _ _ _ _) _ _ _ _ _ (lends _ _ _ _) _ _ F (lends _ _ _ _) _ (front (length c.args.rs.now) c.suppose_each.new.hs) _ _ c.in-Line.ensures.answer _ _ c.drop_hypotheses.ensures; line = c.in-Line.ensures.line }
-
-pub shape_of-work-in-Fails : goal.shape_of-work-in-Fails
-shape_of-work-in-Fails c = c.drop_hypotheses-in-Fails.auto.work ∙ c.case_goal.auto.work ∙ c.suppose_each.auto.work
-
-pub shape_of-words-in-Fails : goal.shape_of-words-in-Fails
-shape_of-words-in-Fails c = c.case_goal.auto.words ∙ c.suppose_each.auto.words
-
-pub shape_of-proof-in-Fails : goal.shape_of-proof-in-Fails
-shape_of-proof-in-Fails c = c.case_goal.auto.proof ∙ c.suppose_each.auto.proof
 
 pub returns-in-Fails : goal.returns-in-Fails
 returns-in-Fails c =
-    let F = c.in-All.ensures in
+    let F = c.in-Ok.ensures in
     record { answer = under_fails (lends _ _ _ _) _ _ _ _ _ (lends _ _ _ _) _ _ F (lends _ _ _ _) _ (front (length c.args.rs.now) c.suppose_each.new.hs) _ c.in-Fails.ensures.answer _ _ c.drop_hypotheses-in-Fails.ensures; line = tt }
 
-pub returns-in-Refused-case_goal : goal.returns-in-Refused-case_goal
-returns-in-Refused-case_goal c =
-    let F = c.in-All.ensures in
-    record { answer = under-refused (lends _ _ _ _) _ _ _ _ _ (lends _ _ _ _) _ _ F (lends _ _ _ _) _ c.in-Refused-case_goal.ensures.answer; line = tt }
-
 pub returns-in-Refused : goal.returns-in-Refused
-returns-in-Refused c = let F = c.in-Refused.ensures in record { answer = under_short (lends _ _ _ _) _ _ _ _ _ (lends _ _ _ _) _ _ F; line = tt }
+returns-in-Refused c =
+    let F = c.in-Ok.ensures in
+    record { answer = under-refused (lends _ _ _ _) _ _ _ _ _ (lends _ _ _ _) _ _ F (lends _ _ _ _) _ c.in-Refused.ensures.answer; line = tt }
+
+pub returns-in-Err : goal.returns-in-Err
+returns-in-Err c = let F = c.in-Err.ensures in record { answer = under_short (lends _ _ _ _) _ _ _ _ _ (lends _ _ _ _) _ _ F; line = tt }

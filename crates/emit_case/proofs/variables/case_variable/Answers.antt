@@ -1,5 +1,6 @@
 -- `case_variable` meets its contract.
 use native.Mathlib.Omega.{arith}
+use Rattle.std.proofs.lemmas.Result.{err_from_is_err_and}
 use Rattle.emit_state.specs.Holding.{lends}
 use Rattle.emit_case.specs.Naming.{asked_small}
 use Rattle.emit_case.specs.Making.{variable-refused, name-asked, variable_makes}
@@ -10,15 +11,16 @@ overflow_add-number c = record { fits = omega (arith, asked_small _ _ _ _ c.requ
 
 pub name_variable-requires : goal.name_variable-requires
 name_variable-requires c =
-    let I = c.in-As.ensures in
+    let I = c.in_ok-t.ensures in
     name-asked _ _ _ _ _ _ _ _ _ _ _ I c.requires
 
-pub returns-in-As : goal.returns-in-As
-returns-in-As c =
-    let I = c.in-As.ensures in
+pub returns : goal.returns
+returns c =
+    let I = c.in_ok-t.ensures in
     variable_makes _ _ _ _ _ _ _ _ _ _ _ I (lends _ _ _ _) _ c.name_variable.ensures
 
-pub returns-in-Refused : goal.returns-in-Refused
-returns-in-Refused c =
-    let I = c.in-Refused.ensures in
-    variable-refused _ _ _ _ _ _ _ _ _ _ I (lends _ _ _ _)
+pub returns-in_err-t : goal.returns-in_err-t
+returns-in_err-t c =
+    let I = c.in_err-t.ensures in
+    let p = err_from_is_err_and c.from_residual.result c.from_residual.ensures.1 in
+    rw (p.1, p.2) (variable-refused _ _ _ _ _ _ _ _ _ _ I (lends _ _ _ _))

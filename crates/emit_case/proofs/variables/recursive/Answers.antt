@@ -1,6 +1,5 @@
 -- `recursive` meets its contract.
-use native.Mathlib.Omega.{arith}
-use Rattle.emit_case.specs.Filtering.{filter_go, few_bytes, few_kept, few_more, more-kept, kept-below, sort-within, filter-keep, filter_pass, filter-end}
+use Rattle.emit_case.specs.Filtering.{filter_go, few_kept, more-kept, kept-below, sort-within, filter-keep, filter_pass, filter-end}
 use Rattle.emit_case.proofs.variables.recursive.Goals as goal
 use Rattle.emit_case.proofs.variables.recursive.Goals.{then-symbol_input-sort, else-symbol_input-sort}
 
@@ -12,9 +11,6 @@ symbol_input-requires c =
     let F = c.requires in
     (F.readable, F.symbol, sort-within _ _ _ _ _ _ _ _ _ c.loop-i.invariant c.loop-i-test.true F.readable)
 
-pub offset_bounds-vs-i : goal.offset_bounds-vs-i
-offset_bounds-vs-i c = record { fits = few_bytes _ _ _ _ _ _ _ _ _ c.loop-i.invariant c.loop-i-test.true }
-
 pub offset_bounds-rs-many : goal.offset_bounds-rs-many
 offset_bounds-rs-many c = record { fits = few_kept _ _ _ _ _ _ _ _ _ c.loop-i.invariant c.loop-i-test.true }
 
@@ -23,9 +19,6 @@ bounds-rs-many c = kept-below _ _ _ _ _ _ _ _ _ c.loop-i.invariant c.loop-i-test
 
 pub overflow_add-many : goal.overflow_add-many
 overflow_add-many c = record { fits = more-kept _ _ _ _ _ _ _ _ _ c.loop-i.invariant c.loop-i-test.true }
-
-pub overflow_add-i : goal.overflow_add-i
-overflow_add-i c = record { fits = few_more _ _ _ _ _ _ _ _ _ c.loop-i.invariant c.loop-i-test.true }
 
 pub loop-i-preserved : goal.loop-i-preserved
 loop-i-preserved c =
@@ -36,9 +29,6 @@ loop-i-preserved c =
       | then-symbol_input-sort w ↦ filter-keep _ _ _ _ _ _ _ _ _ g h _ N w.if-symbol_input-sort.true c.if-symbol_input-sort.rs c.if-symbol_input-sort.many w.rs-is w.many-is
       | else-symbol_input-sort w ↦ filter_pass _ _ _ _ _ _ _ _ _ g h _ N w.if-symbol_input-sort.false c.if-symbol_input-sort.rs c.if-symbol_input-sort.many w.rs-is w.many-is
     ]
-
-pub shape_of-rs : goal.shape_of-rs
-shape_of-rs c = omega (arith, c.loop-i.invariant.room, c.requires.room)
 
 pub returns : goal.returns
 returns c = filter-end _ _ _ _ _ _ _ _ _ c.loop-i.invariant c.loop-i-test.false

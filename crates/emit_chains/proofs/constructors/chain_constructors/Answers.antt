@@ -17,8 +17,8 @@ many P = length P.symbols
 pub clear_chains-requires : goal.clear_chains-requires
 clear_chains-requires c = c.requires.1.within
 
-pub count-h-requires : goal.count-h-requires
-count-h-requires c =
+pub count-many-requires : goal.count-many-requires
+count-many-requires c =
     let p = c.requires in
     ((ready_cleared _ _ _ 1 many key (λ w. length_symbols _ _) _ p.0 p.1 (omega arith) p.3 _ _ c.clear_chains.ensures.frame).held.cataloged.fits, omega arith)
 
@@ -26,7 +26,7 @@ pub loop-h-init : goal.loop-h-init
 loop-h-init c =
     let p = c.requires in
     let u = c.clear_chains.ensures in
-    chaining_none _ _ _ 1 many key (λ w. length_symbols _ _) _ (ready_cleared _ _ _ 1 many key (λ w. length_symbols _ _) _ p.0 p.1 (omega arith) p.3 _ _ u.frame) u.empty _ c.count-h.ensures
+    chaining_none _ _ _ 1 many key (λ w. length_symbols _ _) _ (ready_cleared _ _ _ 1 many key (λ w. length_symbols _ _) _ p.0 p.1 (omega arith) p.3 _ _ u.frame) u.empty _ c.count-many.ensures
 
 pub symbol_output-output-requires : goal.symbol_output-output-requires
 symbol_output-output-requires c =
@@ -48,9 +48,6 @@ loop-h-preserved c =
     let o = c.symbol_output-output in
     let u = c.put_keyed in
     chaining_more _ _ _ 1 many key (λ w. length_symbols _ _) _ _ _ g.invariant (g.h - 1) (omega (arith, c.loop-h-test.true)) o.result (λ P R q. o.ensures P R) u.new.work u.ensures.put u.ensures.frame
-
-pub shape_of-work : goal.shape_of-work
-shape_of-work c = omega (arith, c.loop-h.invariant.outside.long, c.clear_chains.ensures.frame.long)
 
 pub returns : goal.returns
 returns c = let v = c.loop-h.invariant in record { chained = chaining_all _ _ _ 1 many key (λ w. length_symbols _ _) _ _ _ v (omega (arith, c.loop-h-test.false)); frame = chaining_outside _ _ _ 1 many key (λ w. length_symbols _ _) _ _ _ v _ c.clear_chains.ensures.frame }

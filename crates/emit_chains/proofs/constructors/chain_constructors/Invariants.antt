@@ -13,6 +13,3 @@ key P h = (symbol_of P h).output
 
 abbrev pub invariant-loop-h : goal.invariant-loop-h
 invariant-loop-h l = Chaining l.pack l.c l.chains 1 many key l.initial.work l.h l.work
-
-abbrev pub decreases-loop-h : goal.decreases-loop-h
-decreases-loop-h l = l.h

@@ -17,8 +17,8 @@ many P = length P.rules
 pub clear_chains-requires : goal.clear_chains-requires
 clear_chains-requires c = c.requires.1.within
 
-pub count-r-requires : goal.count-r-requires
-count-r-requires c =
+pub count-many-requires : goal.count-many-requires
+count-many-requires c =
     let p = c.requires in
     ((ready_cleared _ _ _ 2 many key (λ w. length-rules _ _) _ p.0 p.1 (omega arith) p.3 _ _ c.clear_chains.ensures.frame).held.cataloged.fits, omega arith)
 
@@ -26,7 +26,7 @@ pub loop-r-init : goal.loop-r-init
 loop-r-init c =
     let p = c.requires in
     let u = c.clear_chains.ensures in
-    chaining_none _ _ _ 2 many key (λ w. length-rules _ _) _ (ready_cleared _ _ _ 2 many key (λ w. length-rules _ _) _ p.0 p.1 (omega arith) p.3 _ _ u.frame) u.empty _ c.count-r.ensures
+    chaining_none _ _ _ 2 many key (λ w. length-rules _ _) _ (ready_cleared _ _ _ 2 many key (λ w. length-rules _ _) _ p.0 p.1 (omega arith) p.3 _ _ u.frame) u.empty _ c.count-many.ensures
 
 pub rule_head-head-requires : goal.rule_head-head-requires
 rule_head-head-requires c =
@@ -48,9 +48,6 @@ loop-r-preserved c =
     let o = c.rule_head-head in
     let u = c.put_keyed in
     chaining_more _ _ _ 2 many key (λ w. length-rules _ _) _ _ _ g.invariant (g.r - 1) (omega (arith, c.loop-r-test.true)) o.result o.ensures u.new.work u.ensures.put u.ensures.frame
-
-pub shape_of-work : goal.shape_of-work
-shape_of-work c = omega (arith, c.loop-r.invariant.outside.long, c.clear_chains.ensures.frame.long)
 
 pub returns : goal.returns
 returns c = let v = c.loop-r.invariant in record { chained = chaining_all _ _ _ 2 many key (λ w. length-rules _ _) _ _ _ v (omega (arith, c.loop-r-test.false)); frame = chaining_outside _ _ _ 2 many key (λ w. length-rules _ _) _ _ _ v _ c.clear_chains.ensures.frame }

@@ -14,6 +14,3 @@ key P r = top_of (rule_of P r).conclusion
 
 abbrev pub invariant-loop-r : goal.invariant-loop-r
 invariant-loop-r l = Chaining l.pack l.c l.chains 2 many key l.initial.work l.r l.work
-
-abbrev pub decreases-loop-r : goal.decreases-loop-r
-decreases-loop-r l = l.r

@@ -1,5 +1,4 @@
 -- `first_proved` meets its contract.
-use mathlib.Core.Path.{◌≡◌}
 use Prim.Native.Nat.{◌-◌}
 use lib.ListN.{length}
 use Rattle.emit_state.specs.Holding.{lends}
@@ -8,11 +7,7 @@ use Rattle.emit_induct.proofs.candidates.first_proved.Given as goal
 
 abbrev pub invariant-loop-i : goal.invariant-loop-i
 invariant-loop-i l =
-    (length l.work ≡ length l.initial.work)
-    × (length l.words ≡ length l.initial.words)
-    × (length l.proof ≡ length l.initial.proof)
-    × (length l.cases ≡ length l.initial.cases)
-    × CandidatesGo (lends l.pack l.initial.work l.initial.words l.initial.proof) (lends l.pack l.work l.words l.proof) l.l l.initial.t l.t l.x l.args l.candidates l.i
+    CandidatesGo (lends l.pack l.initial.work l.initial.words l.initial.proof) (lends l.pack l.work l.words l.proof) l.l l.initial.t l.t l.x l.args l.candidates l.i
 
 abbrev pub decreases-loop-i : goal.decreases-loop-i
 decreases-loop-i l = length l.candidates - l.i

@@ -1,6 +1,5 @@
 -- `put_variables` meets its contract: with each turn one variable more is there.
-use borrow.Author.Rules.{rules}
-use mathlib.Core.Path.{refl, ap}
+use mathlib.Core.Path.{ap}
 use mathlib.Core.List.{List, map}
 use Prim.Native.Nat.{ℕ}
 use native.Mathlib.Omega.{arith}
@@ -13,20 +12,20 @@ use Rattle.text_write.specs.Written.{adds_none, adds_then, adds_as}
 use Rattle.emit_lines.specs.Side.{blanked-next}
 use Rattle.emit_lines.proofs.list.put_variables.Goals as goal
 
-pub loop-i-init : goal.loop-i-init
+pub loop-k-init : goal.loop-k-init
 unfolding blanked
-loop-i-init c = (omega arith, refl, adds_none _ _)
+loop-k-init c = adds_none _ _
 
-pub loop-i-preserved : goal.loop-i-preserved
-loop-i-preserved c =
-    let g = c.loop-i in
+pub loop-k-preserved : goal.loop-k-preserved
+loop-k-preserved c =
+    let g = c.loop-k in
     let a = c.args in
     let f = variable_text (name_with a.u) in
     let s = a.variables.now in
-    (search rules, search rules, adds_as _ _ _ _ _ _ (blanked-next f s g.i c.loop-i-test.true) (adds_then _ _ _ _ _ _ (blanked (map f (take g.i s))) _ g.invariant.2 c.put_blanked_variable-end.ensures))
+    adds_as _ _ _ _ _ _ (blanked-next f s g.k-index c.loop-k-test.true) (adds_then _ _ _ _ _ _ (blanked (map f (take g.k-index s))) _ g.invariant c.put_blanked_variable-end.ensures)
 
 pub returns : goal.returns
 returns c =
-    let g = c.loop-i in
+    let g = c.loop-k in
     let a = c.args in
-    adds_as _ _ _ _ _ _ (ap (λ (l : List ℕ). blanked (map (variable_text (name_with a.u)) l)) (take_all g.i a.variables.now (omega (arith, c.loop-i-test.false)))) g.invariant.2
+    adds_as _ _ _ _ _ _ (ap (λ (l : List ℕ). blanked (map (variable_text (name_with a.u)) l)) (take_all g.k-index a.variables.now (omega (arith, c.loop-k-test.false)))) g.invariant

@@ -20,9 +20,6 @@ loop-i-preserved c =
     let u = c.clear_entry in
     undoing_more _ _ c.requires.0 _ _ c.requires.3 _ _ g.invariant (g.i - 1) (omega (arith, l)) l u.new.work u.ensures
 
-pub shape_of-work : goal.shape_of-work
-shape_of-work c = c.loop-i.invariant.outside.long
-
 pub returns : goal.returns
 returns c =
     let g = c.loop-i in

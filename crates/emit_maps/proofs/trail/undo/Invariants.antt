@@ -4,6 +4,3 @@ use Rattle.emit_maps.proofs.trail.undo.Given as goal
 
 abbrev pub invariant-loop-i : goal.invariant-loop-i
 invariant-loop-i l = Undoing l.initial.work l.m l.from l.to l.i l.work
-
-abbrev pub decreases-loop-i : goal.decreases-loop-i
-decreases-loop-i l = l.i

@@ -20,16 +20,10 @@ loop-next-smaller c = omega (arith, going_early _ _ _ _ _ _ _ _ c.requires _ _ _
 pub loop-next-preserved : goal.loop-next-preserved
 loop-next-preserved c = rw (add-one c.loop-next.i) (going_more _ _ _ _ _ _ _ _ c.requires _ _ _ c.loop-next.invariant c.match_turn.new.work _ c.match_turn.ensures.frame (rw c.in-Next.is at c.match_turn.ensures.turn))
 
-pub shape_of-work-in-Done : goal.shape_of-work-in-Done
-shape_of-work-in-Done c = omega (arith, c.match_turn.ensures.frame.long, c.loop-next.invariant.0.long)
-
 pub returns-in-Done : goal.returns-in-Done
 returns-in-Done c =
     let g = c.loop-next.invariant in
     record { matched = going_done _ _ _ _ _ _ _ _ c.requires _ _ _ g c.match_turn.new.work (rw c.in-Done.is at c.match_turn.ensures.turn); frame = stays_then _ _ _ _ g.0 c.match_turn.ensures.frame }
-
-pub shape_of-work-in-Fails : goal.shape_of-work-in-Fails
-shape_of-work-in-Fails c = omega (arith, c.match_turn.ensures.frame.long, c.loop-next.invariant.0.long)
 
 pub returns-in-Fails : goal.returns-in-Fails
 returns-in-Fails c =

@@ -3,10 +3,10 @@ use Rattle.emit_open.specs.Meets.{meets-known, meets-room, meets-new}
 use Rattle.emit_open.proofs.open.meet.Goals as goal
 
 pub push-requires : goal.push-requires
-push-requires c = meets-room _ _ _ _ _ c.requires c.in-Nothing.ensures _ c.put.ensures
+push-requires c = meets-room _ _ _ _ _ c.requires c.in-None.ensures _ c.put.ensures
 
-pub returns-in-Value : goal.returns-in-Value
-returns-in-Value c = meets-known _ _ _ _ _ c.requires _ c.in-Value.ensures
+pub returns-in-Some : goal.returns-in-Some
+returns-in-Some c = meets-known _ _ _ _ _ c.requires _ c.in-Some.ensures
 
-pub returns-in-Nothing : goal.returns-in-Nothing
-returns-in-Nothing c = let p = c.push in meets-new _ _ _ _ _ c.requires c.in-Nothing.ensures _ c.put.ensures _ _ p.ensures.stack p.ensures.frame
+pub returns-in-None : goal.returns-in-None
+returns-in-None c = let p = c.push in meets-new _ _ _ _ _ c.requires c.in-None.ensures _ c.put.ensures _ _ p.ensures.stack p.ensures.frame

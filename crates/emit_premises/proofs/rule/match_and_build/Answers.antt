@@ -1,12 +1,11 @@
 -- `match_and_build` meets its contract.
 use borrow.Author.Tests.{not-true, not-false}
 use native.Mathlib.Omega.{arith}
-use mathlib.Core.Path.{◌∙◌}
 use Rattle.pack_read.specs.Held.{readable}
 use Rattle.emit_premises.specs.Readied.{ready_small, ready_given, ready_pattern, ready_site}
 use Rattle.emit_premises.specs.Answered.{matched_to, built_by, answered-none, answered-asked, answered_few, answered-all, answered_lacks, answered_short}
 use mathlib.Core.Bool.{not}
-use Rattle.std.proofs.Common.{ap}
+use Rattle.std.proofs.Common.{ap, ◌∙◌, Some}
 use Rattle.emit_premises.proofs.rule.match_and_build.Goals as goal
 
 pub matching-at-requires : goal.matching-at-requires
@@ -43,9 +42,6 @@ build_premises-requires c =
     let N = rw q at c.rule_premises-n.ensures in
     rw q (answered-asked _ _ _ _ _ _ _ A _ Y M _ N, c.requires.1)
 
-pub shape_of-work-in-All : goal.shape_of-work-in-All
-shape_of-work-in-All c = c.build_premises.auto.work ∙ c.match_rule.auto.work
-
 pub returns-in-All : goal.returns-in-All
 returns-in-All c =
     let A = c.requires.0 in
@@ -53,11 +49,8 @@ returns-in-All c =
     let Y = rw q at c.match_rule.ensures.frame in
     let M = matched_to _ _ _ _ _ _ _ A _ Y _ q c.match_rule.result _ (not-false _ (ap not c.if-not-match_rule.false)) c.match_rule.ensures.matched in
     let N = rw q at c.rule_premises-n.ensures in
-    let K = built_by _ _ _ _ _ _ _ A _ Y M _ N c.build_premises.new.work c.build_premises.new.words c.build_premises.new.qs c.build_premises.auto.words _ q _ _ c.in-All.is (c.build_premises.ensures.built, c.build_premises.ensures.frame) in
+    let K = built_by _ _ _ _ _ _ _ A _ Y M _ N c.build_premises.new.work c.build_premises.new.words c.build_premises.new.qs c.build_premises.auto.words _ q _ _ (c.in-Some.is ∙ ap Some c.in-All.is) (c.build_premises.ensures.built, c.build_premises.ensures.frame) in
     rw c.with_store.ensures (answered-all _ _ _ _ _ _ _ A _ Y M _ N c.build_premises.new.work c.build_premises.new.words c.build_premises.new.qs c.build_premises.auto.words c.in-All.grown K (omega (arith, answered_few _ _ _ _ _ _ _ A _ Y M _ N, c.build_premises.auto.qs, c.requires.1)))
-
-pub shape_of-work-in-Lacks : goal.shape_of-work-in-Lacks
-shape_of-work-in-Lacks c = c.build_premises.auto.work ∙ c.match_rule.auto.work
 
 pub returns-in-Lacks : goal.returns-in-Lacks
 returns-in-Lacks c =
@@ -66,15 +59,15 @@ returns-in-Lacks c =
     let Y = rw q at c.match_rule.ensures.frame in
     let M = matched_to _ _ _ _ _ _ _ A _ Y _ q c.match_rule.result _ (not-false _ (ap not c.if-not-match_rule.false)) c.match_rule.ensures.matched in
     let N = rw q at c.rule_premises-n.ensures in
-    let K = built_by _ _ _ _ _ _ _ A _ Y M _ N c.build_premises.new.work c.build_premises.new.words c.build_premises.new.qs c.build_premises.auto.words _ q _ _ c.in-Lacks.is (c.build_premises.ensures.built, c.build_premises.ensures.frame) in
+    let K = built_by _ _ _ _ _ _ _ A _ Y M _ N c.build_premises.new.work c.build_premises.new.words c.build_premises.new.qs c.build_premises.auto.words _ q _ _ (c.in-Some.is ∙ ap Some c.in-Lacks.is) (c.build_premises.ensures.built, c.build_premises.ensures.frame) in
     rw c.with_store-in-Lacks.ensures (answered_lacks _ _ _ _ _ _ _ A _ Y M _ N c.build_premises.new.work c.build_premises.new.words c.build_premises.new.qs c.build_premises.auto.words c.in-Lacks.grown K)
 
-pub returns-in-Short : goal.returns-in-Short
-returns-in-Short c =
+pub returns-in_default : goal.returns-in_default
+returns-in_default c =
     let A = c.requires.0 in
     let q = c.matching-at.ensures in
     let Y = rw q at c.match_rule.ensures.frame in
     let M = matched_to _ _ _ _ _ _ _ A _ Y _ q c.match_rule.result _ (not-false _ (ap not c.if-not-match_rule.false)) c.match_rule.ensures.matched in
     let N = rw q at c.rule_premises-n.ensures in
-    let K = built_by _ _ _ _ _ _ _ A _ Y M _ N c.build_premises.new.work c.build_premises.new.words c.build_premises.new.qs c.build_premises.auto.words _ q _ _ c.in-Short.is (c.build_premises.ensures.built, c.build_premises.ensures.frame) in
+    let K = built_by _ _ _ _ _ _ _ A _ Y M _ N c.build_premises.new.work c.build_premises.new.words c.build_premises.new.qs c.build_premises.auto.words _ q _ _ c.in_default.is (c.build_premises.ensures.built, c.build_premises.ensures.frame) in
     answered_short _ _ _ _ _ _ _ A _ Y M _ N c.build_premises.new.work c.build_premises.new.words c.build_premises.new.qs c.build_premises.auto.words K

@@ -1,14 +1,10 @@
 -- `build_turn` meets its contract.
 use native.Mathlib.Omega.{arith}
-use Prim.Native.Nat.{◌+◌}
 use Rattle.base.specs.Outside.{outside_none}
 use Rattle.emit_premises.specs.Amid.{room_there}
 use Rattle.emit_premises.specs.Reading.{kept-stored}
 use Rattle.emit_premises.specs.Closing.{done_goes, close_goes}
 use Rattle.emit_premises.proofs.turn.build_turn.Goals as goal
-
-pub overflow_cast-full : goal.overflow_cast-full
-overflow_cast-full c = omega (arith, c.slice_known-3-1.given (c.args.b.base + 1))
 
 pub read_turn-requires : goal.read_turn-requires
 read_turn-requires c =

@@ -1,5 +1,5 @@
 -- `ask_all` meets its contract.
-use mathlib.Core.Path.{ap, ◌∙◌}
+use mathlib.Core.Path.{ap}
 use Prim.Native.Nat.{ℕ}
 use Rattle.base.specs.declared.stack.Stack.{Stack}
 use Rattle.emit_replace.specs.AskTurns.{since_none, since_asked, since_more, since_done}
@@ -20,9 +20,6 @@ loop-next-smaller c = c.ask_turn.ensures.less
 
 pub loop-next-preserved : goal.loop-next-preserved
 loop-next-preserved c = since_more _ _ _ _ _ _ _ _ _ _ c.loop-next.invariant _ _ _ c.in-On.ensures
-
-pub shape_of-work : goal.shape_of-work
-shape_of-work c = c.ask_turn.ensures.kept.outside.long ∙ c.loop-next.invariant.kept.outside.long
 
 pub returns : goal.returns
 returns c = since_done _ _ _ _ _ _ _ _ _ _ c.loop-next.invariant _ _ (ap on c.walk.ensures) c.in-Done.ensures

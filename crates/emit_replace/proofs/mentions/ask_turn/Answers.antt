@@ -11,8 +11,8 @@ remember-requires c = ask_remembers _ _ _ _ _ _ _ _ c.requires _ c.descend-top.e
 pub pop-requires : goal.pop-requires
 pop-requires c = ask_stack _ _ _ _ _ _ _ _ c.requires _ c.descend-top.ensures _ c.mark_of-mark.ensures _ c.remember.ensures
 
-pub returns-in-Word : goal.returns-in-Word
-returns-in-Word c = asks_on _ _ _ _ _ _ _ _ c.requires _ c.descend-top.ensures _ c.mark_of-mark.ensures _ c.remember.ensures _ _ c.in-Word.ensures
+pub returns-in-Some : goal.returns-in-Some
+returns-in-Some c = asks_on _ _ _ _ _ _ _ _ c.requires _ c.descend-top.ensures _ c.mark_of-mark.ensures _ c.remember.ensures _ _ c.in-Some.ensures
 
-pub returns-in-Empty : goal.returns-in-Empty
-returns-in-Empty c = asks_done _ _ _ _ _ _ _ _ c.requires _ c.descend-top.ensures _ c.mark_of-mark.ensures _ c.remember.ensures c.in-Empty.ensures
+pub returns-in-None : goal.returns-in-None
+returns-in-None c = asks_done _ _ _ _ _ _ _ _ c.requires _ c.descend-top.ensures _ c.mark_of-mark.ensures _ c.remember.ensures c.in-None.ensures

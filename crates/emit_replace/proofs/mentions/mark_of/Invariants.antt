@@ -1,6 +1,6 @@
 -- `mark_of` meets its contract.
 use mathlib.Core.Path.{◌≡◌}
-use Prim.Native.Nat.{ℕ, ◌-◌, ◌≤◌, ◌<◌}
+use Prim.Native.Nat.{ℕ, ◌≤◌, ◌<◌}
 use lib.ListN.{get_or}
 use Rattle.emit_replace.specs.Known.{value_of}
 use Rattle.emit_replace.specs.Reading.{args_in, values_in}
@@ -8,6 +8,3 @@ use Rattle.emit_replace.proofs.mentions.mark_of.Given as goal
 
 abbrev pub invariant-loop-i : goal.invariant-loop-i
 invariant-loop-i l = (l.i ≤ l.n) × ((h : ℕ) → h < l.i → value_of (values_in l.work l.l l.memo) (get_or (args_in l.words l.st l.p) h 0) ≡ 1 → ⊥)
-
-abbrev pub decreases-loop-i : goal.decreases-loop-i
-decreases-loop-i l = l.n - l.i

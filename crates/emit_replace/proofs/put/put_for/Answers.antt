@@ -15,8 +15,8 @@ put_all-requires c =
     let P = c.requires in
     (_, put_going P.pack P.proof _ _ _ _ P.world P.state P.ready _ _ _ P.j_stored _ _ c.begin-memo.ensures c.if-j-x.false)
 
-pub returns-in-Id : goal.returns-in-Id
-returns-in-Id c = let r = replaces_as _ _ _ _ _ _ _ _ _ c.begin-memo.ensures c.if-j-x.false _ _ _ _ _ c.with_store.ensures c.in-Id.ensures c.put_all.auto.words in record { grown = r.0; comes = r.1 }
+pub returns : goal.returns
+returns c = let r = replaces_as _ _ _ _ _ _ _ _ _ c.begin-memo.ensures c.if-j-x.false _ _ _ _ _ c.with_store.ensures c.in-Some.ensures c.put_all.auto.words in record { grown = r.0; comes = r.1 }
 
-pub returns-in-Short : goal.returns-in-Short
-returns-in-Short c = record { grown = tt; comes = replaces_short _ _ _ _ _ _ _ _ _ c.begin-memo.ensures c.if-j-x.false _ _ c.in-Short.ensures }
+pub returns-in_default : goal.returns-in_default
+returns-in_default c = record { grown = tt; comes = replaces_short _ _ _ _ _ _ _ _ _ c.begin-memo.ensures c.if-j-x.false _ _ c.in_default.ensures }

@@ -9,13 +9,13 @@ pub finish-requires : goal.finish-requires
 finish-requires c = put_finishable _ _ _ _ _ _ _ _ c.requires _ c.descend-top.ensures
 
 pub pop-requires : goal.pop-requires
-pop-requires c = put_stack _ _ _ _ _ _ _ _ c.requires _ c.descend-top.ensures _ _ _ _ c.in-Id.ensures c.finish.auto.words
+pop-requires c = put_stack _ _ _ _ _ _ _ _ c.requires _ c.descend-top.ensures _ _ _ _ c.in_ok-q.ensures c.finish.auto.words
 
-pub returns-in-Word : goal.returns-in-Word
-returns-in-Word c = puts_on _ _ _ _ _ _ _ _ c.requires _ c.descend-top.ensures _ _ _ _ c.in-Id.ensures c.finish.auto.words _ _ c.in-Word.ensures
+pub returns-in-Some : goal.returns-in-Some
+returns-in-Some c = puts_on _ _ _ _ _ _ _ _ c.requires _ c.descend-top.ensures _ _ _ _ c.in_ok-q.ensures c.finish.auto.words _ _ c.in-Some.ensures
 
-pub returns-in-Empty : goal.returns-in-Empty
-returns-in-Empty c = puts_done _ _ _ _ _ _ _ _ c.requires _ c.descend-top.ensures _ _ _ _ c.in-Id.ensures c.finish.auto.words c.in-Empty.ensures
+pub returns-in-None : goal.returns-in-None
+returns-in-None c = puts_done _ _ _ _ _ _ _ _ c.requires _ c.descend-top.ensures _ _ _ _ c.in_ok-q.ensures c.finish.auto.words c.in-None.ensures
 
-pub returns-in-Short : goal.returns-in-Short
-returns-in-Short c = puts_short _ _ _ _ _ _ _ _ c.requires _ c.descend-top.ensures _ _ c.in-Short.ensures
+pub returns-in_err-q : goal.returns-in_err-q
+returns-in_err-q c = rw c.from_residual.ensures (puts_short _ _ _ _ _ _ _ _ c.requires _ c.descend-top.ensures _ _ c.in_err-q.ensures)

@@ -19,12 +19,6 @@ put-requires c =
     let many = values-many _ _ c.clear-memo.result L in
     (omega (arith, f, t), rw t (omega (arith, L.within)), rw (f, t) M, rw (f, t) (omega (arith, many, c.requires.2)))
 
-pub shape_of-work : goal.shape_of-work
-shape_of-work c =
-    let f = c.replaced-from.ensures in
-    let t = c.stamp-to.ensures in
-    (begun _ _ _ _ c.requires.0 (rw (f, t) at c.clear-memo.ensures) _ _ _ (rw (f, t) at c.put.ensures)).outside.long
-
 pub returns : goal.returns
 returns c =
     let f = c.replaced-from.ensures in

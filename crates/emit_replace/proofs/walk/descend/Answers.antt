@@ -20,18 +20,15 @@ pub loop-a-smaller : goal.loop-a-smaller
 loop-a-smaller c =
     let W = c.requires in
     let P = c.loop-a.invariant.pending W.0 W.1 in
-    open_less _ _ _ _ _ _ _ W.0 P _ c.in-Argument.ensures
+    open_less _ _ _ _ _ _ _ W.0 P _ c.in-Some.ensures
 
 pub loop-a-preserved : goal.loop-a-preserved
 loop-a-preserved c =
-    descending_more _ _ _ _ _ _ _ _ _ _ c.requires c.loop-a.invariant _ c.in-Argument.ensures _ _ c.push-wait.ensures.stack.0 c.push-wait.ensures.stack.2 c.push-wait.ensures.frame
-
-pub shape_of-work : goal.shape_of-work
-shape_of-work c = c.loop-a.invariant.outside.long
+    descending_more _ _ _ _ _ _ _ _ _ _ c.requires c.loop-a.invariant _ c.in-Some.ensures _ _ c.push-wait.ensures.stack.0 c.push-wait.ensures.stack.2 c.push-wait.ensures.frame
 
 pub returns : goal.returns
 returns c =
     let a = c.args in
     let W = c.requires in
     let D = c.loop-a.invariant in
-    record { down = D; ripe = ripe_before _ _ _ _ W.1.readable.laid D.outside (args_in a.words.now a.st c.loop-a.top) c.in-Ripe.ensures }
+    record { down = D; ripe = ripe_before _ _ _ _ W.1.readable.laid D.outside (args_in a.words.now a.st c.loop-a.top) c.in-None.ensures }

@@ -14,8 +14,8 @@ get-requires c =
     let many = failed_many _ _ c.args.failed c.requires.laid in
     (omega (arith, f, t), omega (arith, t, c.requires.laid.within), rw (f, t) (omega (arith, many, c.requires.below)))
 
-pub returns-in-Value : goal.returns-in-Value
-returns-in-Value c =
+pub returns-in-Some : goal.returns-in-Some
+returns-in-Some c =
     let f = c.failed-from.ensures in
     let t = c.replaced-to.ensures in
-    given-up _ _ _ _ _ _ (omega arith) (sym (rw (f, t, c.in-Value.is) at c.get.ensures))
+    given-up _ _ _ _ _ _ (omega arith) (sym (rw (f, t, c.in-Some.is) at c.get.ensures))

@@ -10,15 +10,15 @@ look-requires c =
     let m = c.maps-maps.ensures in
     (rw m c.requires.0, omega arith, omega (arith, c.requires.1, ap (λ (h : Maps). h.room) m))
 
-pub look-requires-in-Nothing : goal.look-requires-in-Nothing
-look-requires-in-Nothing c =
+pub look-requires-in-None : goal.look-requires-in-None
+look-requires-in-None c =
     let m = c.maps-maps.ensures in
     (rw m c.requires.0, omega arith, omega (arith, c.requires.1, ap (λ (h : Maps). h.room) m))
 
-pub returns-in-Number : goal.returns-in-Number
-returns-in-Number c = recalls_proved _ _ _ _ (rw (c.maps-maps.ensures, c.in-Number.is) at c.look.ensures)
+pub returns-in-Some : goal.returns-in-Some
+returns-in-Some c = recalls_proved _ _ _ _ (rw (c.maps-maps.ensures, c.in-Some.is) at c.look.ensures)
 
-pub returns-in-Nothing : goal.returns-in-Nothing
-returns-in-Nothing c =
+pub returns-in-None : goal.returns-in-None
+returns-in-None c =
     let m = c.maps-maps.ensures in
-    recalls_supposed _ _ _ _ (rw (m, c.in-Nothing.is) at c.look.ensures) (rw m at c.look-in-Nothing.ensures)
+    recalls_supposed _ _ _ _ (rw (m, c.in-None.is) at c.look.ensures) (rw m at c.look-in-None.ensures)

@@ -15,12 +15,8 @@ pub enum_known-n : goal.enum_known-n
 enum_known-n c = search rules
 
 -- src/prove.rt:39:13
-pub shape_of-work-in-Number : goal.shape_of-work-in-Number
-shape_of-work-in-Number c = search rules
-
--- src/prove.rt:39:13
-pub returns-in-Number : goal.returns-in-Number
-returns-in-Number c = let K = c.in-Number.ensures in answers_known (lends _ _ _ _) _ _ _ _ _ K
+pub returns-in-Some : goal.returns-in-Some
+returns-in-Some c = let K = c.in-Some.ensures in answers_known (lends _ _ _ _) _ _ _ _ _ K
 
 pub enum_told-1 : goal.enum_told-1
 enum_told-1 c = search rules
@@ -30,13 +26,9 @@ pub gives_up-requires : goal.gives_up-requires
 gives_up-requires c = let A = c.requires.0 in failing _ _ _ _ _ A.ready.holding _ (asked-room _ _ _ _ _ A.ready _ A.has)
 
 -- src/prove.rt:44:9
-pub shape_of-work-then-gives_up : goal.shape_of-work-then-gives_up
-shape_of-work-then-gives_up c = search rules
-
--- src/prove.rt:44:9
 pub returns-then-gives_up : goal.returns-then-gives_up
 returns-then-gives_up c =
-    let K = c.in-Nothing.ensures in
+    let K = c.in-None.ensures in
     let U = rw c.if-gives_up.true at c.gives_up.ensures in
     answers_given-up (lends _ _ _ _) _ _ _ _ K c.requires.1 U
 
@@ -69,58 +61,22 @@ pub enum_known-x : goal.enum_known-x
 enum_known-x c = search rules
 
 -- src/prove.rt:24:1
-pub shape_of-work-in-Line : goal.shape_of-work-in-Line
-shape_of-work-in-Line c = search rules
-
--- src/prove.rt:24:1
-pub shape_of-words-in-Line : goal.shape_of-words-in-Line
-shape_of-words-in-Line c = search rules
-
--- src/prove.rt:24:1
-pub shape_of-proof-in-Line : goal.shape_of-proof-in-Line
-shape_of-proof-in-Line c = search rules
-
--- src/prove.rt:24:1
 pub returns-in-Line : goal.returns-in-Line
 returns-in-Line c =
-    let K = c.in-Nothing.ensures in
+    let K = c.in-None.ensures in
     let U = rw c.if-gives_up.false at c.gives_up.ensures in
     answers_proved (lends _ _ _ _) _ _ _ _ K U (lends _ _ _ _) _ _ (rw c.in-Line.is at c.chain.ensures.answer) _ _ c.remember.ensures
 
 -- src/prove.rt:24:1
-pub shape_of-work-in-Fails : goal.shape_of-work-in-Fails
-shape_of-work-in-Fails c = search rules
-
--- src/prove.rt:24:1
-pub shape_of-words-in-Fails : goal.shape_of-words-in-Fails
-shape_of-words-in-Fails c = search rules
-
--- src/prove.rt:24:1
-pub shape_of-proof-in-Fails : goal.shape_of-proof-in-Fails
-shape_of-proof-in-Fails c = search rules
-
--- src/prove.rt:24:1
 pub returns-in-Fails : goal.returns-in-Fails
 returns-in-Fails c =
-    let K = c.in-Nothing.ensures in
+    let K = c.in-None.ensures in
     let U = rw c.if-gives_up.false at c.gives_up.ensures in
     answers_failed (lends _ _ _ _) _ _ _ _ K U (lends _ _ _ _) _ (rw c.in-Fails.is at c.chain.ensures.answer) _ c.note_failed.ensures
 
 -- src/prove.rt:24:1
-pub shape_of-work-in-Refused : goal.shape_of-work-in-Refused
-shape_of-work-in-Refused c = search rules
-
--- src/prove.rt:24:1
-pub shape_of-words-in-Refused : goal.shape_of-words-in-Refused
-shape_of-words-in-Refused c = search rules
-
--- src/prove.rt:24:1
-pub shape_of-proof-in-Refused : goal.shape_of-proof-in-Refused
-shape_of-proof-in-Refused c = search rules
-
--- src/prove.rt:24:1
 pub returns-in-Refused : goal.returns-in-Refused
 returns-in-Refused c =
-    let K = c.in-Nothing.ensures in
+    let K = c.in-None.ensures in
     let U = rw c.if-gives_up.false at c.gives_up.ensures in
     answers_refused (lends _ _ _ _) _ _ _ _ K U (lends _ _ _ _) _ (rw c.in-Refused.is at c.chain.ensures.answer)

@@ -1,6 +1,8 @@
 -- `first_lacking` meets its contract.
+use mathlib.Core.Path.{ap, ◌∙◌}
+use Rattle.std.specs.Prelude.{not}
 use native.Mathlib.Omega.{arith}
-use Rattle.emit_words.specs.Gathering.{passed_none, passed_more, passed_found, passed_all}
+use Rattle.emit_words.specs.Gathering.{passed_none, passed_more, passed_found, passed_all, some_word, no_word}
 use Rattle.emit_words.proofs.gather.first_lacking.Goals as goal
 
 pub loop-i-init : goal.loop-i-init
@@ -16,12 +18,13 @@ word_of-requires c =
 pub loop-i-preserved : goal.loop-i-preserved
 loop-i-preserved c =
     let g = c.loop-i.invariant in
-    (omega arith, passed_more _ _ _ _ c.args.key.now _ g.0 g.1 _ c.word_of.ensures _ c.in-Number.is)
+    let h = some_word _ (c.is_none.ensures ∙ ap not c.if-is_none.false) in
+    (omega arith, passed_more _ _ _ _ c.args.key.now _ g.0 g.1 _ c.word_of.ensures _ h.1)
 
-pub returns-in-Nothing : goal.returns-in-Nothing
-returns-in-Nothing c =
+pub returns-then-is_none : goal.returns-then-is_none
+returns-then-is_none c =
     let g = c.loop-i.invariant in
-    passed_found _ _ _ _ c.args.key.now _ g.0 g.1 _ c.word_of.ensures (omega arith) c.in-Nothing.is
+    passed_found _ _ _ _ c.args.key.now _ g.0 g.1 _ c.word_of.ensures (omega arith) (no_word _ (c.is_none.ensures ∙ ap not c.if-is_none.true))
 
 pub returns : goal.returns
 returns c =

@@ -8,7 +8,3 @@ use Rattle.emit_words.proofs.gather.gather.Given as goal
 abbrev pub invariant-loop-i : goal.invariant-loop-i
 invariant-loop-i l =
     (1 ≤ l.i) × (length l.numbers ≡ length l.initial.numbers) × Gathered l.work l.words l.l l.m (drop 1 l.key) l.numbers (l.i - 1)
-
-abbrev pub decreases-loop-i : goal.decreases-loop-i
-decreases-loop-i l =
-    length l.key - l.i

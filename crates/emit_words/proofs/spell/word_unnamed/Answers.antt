@@ -35,12 +35,12 @@ look-requires c =
 
 pub overflow_add-result : goal.overflow_add-result
 overflow_add-result c =
-    record { fits = omega (arith, def_fits _ _ _ _ _ _ _ _ c.requires.ready _ c.requires.there _ _ (rw c.maps.ensures at c.look.ensures) c.in-Number.is) }
+    record { fits = omega (arith, def_fits _ _ _ _ _ _ _ _ c.requires.ready _ c.requires.there _ _ (rw c.maps.ensures at c.look.ensures) c.in_ok-n.was) }
 
-pub returns-in-Number : goal.returns-in-Number
-returns-in-Number c =
-    λ pack proof w e R u. spelled_defined pack _ _ proof _ _ w e R _ c.requires.there _ c.key_of-key.ensures u c.if-key.false c.if-key-eq1.false _ _ (rw c.maps.ensures at c.look.ensures) c.in-Number.is
+pub returns : goal.returns
+returns c =
+    λ pack proof w e R u. spelled_defined pack _ _ proof _ _ w e R _ c.requires.there _ c.key_of-key.ensures u c.if-key.false c.if-key-eq1.false _ _ (rw c.maps.ensures at c.look.ensures) c.in_ok-n.was
 
-pub returns-in-Nothing : goal.returns-in-Nothing
-returns-in-Nothing c =
-    λ pack proof w e R u. spelled-nothing pack _ _ proof _ _ w e R _ c.requires.there _ c.key_of-key.ensures u c.if-key.false c.if-key-eq1.false _ (rw c.maps.ensures at c.look.ensures) c.in-Nothing.is
+pub returns-in_err-n : goal.returns-in_err-n
+returns-in_err-n c =
+    λ pack proof w e R u. rw c.from_residual.ensures (spelled-nothing pack _ _ proof _ _ w e R _ c.requires.there _ c.key_of-key.ensures u c.if-key.false c.if-key-eq1.false _ (rw c.maps.ensures at c.look.ensures) c.in_err-n.was)

@@ -8,18 +8,18 @@ use Rattle.emit_words.proofs.state.name_and_put.Goals as goal
 
 pub put_step-end-requires : goal.put_step-end-requires
 put_step-end-requires c =
-    readied_placed _ _ _ _ _ _ c.requires _ c.in-All.is c.name_words.ensures
+    readied_placed _ _ _ _ _ _ c.requires _ c.in-Some.is c.name_words.ensures
 
 pub numbered-requires : goal.numbered-requires
 numbered-requires c =
-    placed_steps _ _ _ _ (readied_placed _ _ _ _ _ _ c.requires _ c.in-All.is c.name_words.ensures)
+    placed_steps _ _ _ _ (readied_placed _ _ _ _ _ _ c.requires _ c.in-Some.is c.name_words.ensures)
 
-pub returns-in-All : goal.returns-in-All
+pub returns : goal.returns
 unfolding step
-returns-in-All c =
-    record { answer = answers_line (λ said. step_line_of c.args.rule c.args.refs.now said) _ _ _ _ _ _ _ _ _ c.requires _ c.in-All.is c.name_words.ensures c.put_step-end.new.proof c.put_step-end.auto.proof _ c.put_step-end.ensures _ (λ s. count-step c.in-All.t s c.args.rule c.args.refs.now) _ c.numbered.ensures.counts; line = c.numbered.ensures.line }
+returns c =
+    record { answer = answers_line (λ said. step_line_of c.args.rule c.args.refs.now said) _ _ _ _ _ _ _ _ _ c.requires _ c.in-Some.is c.name_words.ensures c.put_step-end.new.proof c.put_step-end.auto.proof _ c.put_step-end.ensures _ (λ s. count-step c.in-Some.t s c.args.rule c.args.refs.now) _ c.numbered.ensures.counts; line = c.numbered.ensures.line }
 
-pub returns-in-Short : goal.returns-in-Short
+pub returns-in_default : goal.returns-in_default
 unfolding step
-returns-in-Short c =
-    record { answer = answers_short (λ said. step_line_of c.args.rule c.args.refs.now said) _ _ _ _ _ _ c.in-Short.is c.name_words.ensures; line = tt }
+returns-in_default c =
+    record { answer = answers_short (λ said. step_line_of c.args.rule c.args.refs.now said) _ _ _ _ _ _ c.in_default.is c.name_words.ensures; line = tt }

@@ -10,10 +10,10 @@ pub define-requires : goal.define-requires
 define-requires c =
     turn_definable _ _ _ _ _ _ _ _ _ c.requires c.if-s-eq0.false
 
-pub returns-in-Line : goal.returns-in-Line
-returns-in-Line c =
-    turn_defined _ _ _ _ _ _ _ _ _ c.requires c.if-s-eq0.false c.define.new.work c.define.new.proof _ c.define.ensures _ c.in-Line.is
+pub returns : goal.returns
+returns c =
+    turn_defined _ _ _ _ _ _ _ _ _ c.requires c.if-s-eq0.false c.define.new.work c.define.new.proof _ c.define.ensures _ c.in_ok-t.was
 
-pub returns-in-Short : goal.returns-in-Short
-returns-in-Short c =
-    turn_short _ _ _ _ _ _ _ _ _ c.requires c.if-s-eq0.false c.define.new.work c.define.new.proof _ c.define.ensures c.in-Short.is
+pub returns-in_err-t : goal.returns-in_err-t
+returns-in_err-t c =
+    rw c.from_residual.ensures (turn_short _ _ _ _ _ _ _ _ _ c.requires c.if-s-eq0.false c.define.new.work c.define.new.proof _ c.define.ensures c.in_err-t.was)

@@ -1,6 +1,4 @@
 -- `name_words` meets its contract: with each turn there is as much to do as at first.
-use mathlib.Core.Path.{◌≡◌}
-use lib.ListN.{length}
 use Rattle.emit_state.specs.Holding.{lends}
 use Rattle.emit_words.specs.Walking.{left}
 use Rattle.emit_words.specs.Readying.{Reached}
@@ -8,7 +6,7 @@ use Rattle.emit_words.proofs.walk.name_words.Given as goal
 
 abbrev pub invariant-loop-next : goal.invariant-loop-next
 invariant-loop-next l =
-    (length l.work ≡ length l.initial.work) × (length l.proof ≡ length l.initial.proof) × Reached (lends l.pack l.initial.work l.words l.initial.proof) (lends l.pack l.work l.words l.proof) l.l l.initial.t l.t l.j l.s
+    Reached (lends l.pack l.initial.work l.words l.initial.proof) (lends l.pack l.work l.words l.proof) l.l l.initial.t l.t l.j l.s
 
 abbrev pub decreases-loop-next : goal.decreases-loop-next
 decreases-loop-next l =

@@ -23,13 +23,13 @@ push-requires c =
 
 pub finish-requires : goal.finish-requires
 finish-requires c =
-    record { walking = c.requires; top = c.top_of-p.ensures; whole = top-whole _ _ _ _ _ _ _ _ c.requires _ c.top_of-p.ensures c.key_of-key.result.now c.key_of-key.ensures c.in-Nothing.ensures }
+    record { walking = c.requires; top = c.top_of-p.ensures; whole = top-whole _ _ _ _ _ _ _ _ c.requires _ c.top_of-p.ensures c.key_of-key.result.now c.key_of-key.ensures c.in-None.ensures }
 
-pub returns-in-Argument : goal.returns-in-Argument
-returns-in-Argument c =
+pub returns-in-Some : goal.returns-in-Some
+returns-in-Some c =
     let on = c.push.ensures.stack in
-    turn-pushed _ _ _ _ _ _ _ _ c.requires _ c.top_of-p.ensures c.key_of-key.result.now c.key_of-key.ensures _ c.in-Argument.ensures c.push.new.words c.push.ensures.frame _ on.0 on.2
+    turn-pushed _ _ _ _ _ _ _ _ c.requires _ c.top_of-p.ensures c.key_of-key.result.now c.key_of-key.ensures _ c.in-Some.ensures c.push.new.words c.push.ensures.frame _ on.0 on.2
 
-pub returns-in-Nothing : goal.returns-in-Nothing
-returns-in-Nothing c =
+pub returns-in-None : goal.returns-in-None
+returns-in-None c =
     c.finish.ensures

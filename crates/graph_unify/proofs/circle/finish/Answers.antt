@@ -1,43 +1,28 @@
 -- `finish` meets its contract: each turn leaves less to do.
 use mathlib.Core.Path.{◌≡◌}
 use native.Mathlib.Omega.{arith}
-use Rattle.graph.specs.Cells.{unchanged_same, unchanged_then}
-use Rattle.graph_unify.specs.Circles.{onward-first, onward-at, onward_ready, onward_on, onward_less, onward_circle, onward-done}
+use Rattle.graph.specs.Cells.{unchanged_then}
+use Rattle.graph_unify.specs.Circles.{onward-at, onward_on, onward_less, onward_circle, onward-done}
 use Rattle.graph_unify.specs.CircleWords.{path_in, colour_in}
 use Rattle.graph_unify.proofs.circle.finish.Goals as goal
 
-pub loop-top-init : goal.loop-top-init
-loop-top-init c = (unchanged_same _ _, onward-first _ _ _ _ _ _)
-
-pub advance-requires : goal.advance-requires
-advance-requires c =
-    let v = c.loop-top.invariant in
-    let p = c.requires in
-    (onward_ready _ _ _ _ _ _ _ _ _ _ (onward-at _ _ _ _ _ _ _ _ _ _ c.loop-top-test.true v.1) p.0, omega (arith, p.1, v.0.long))
-
 pub loop-top-smaller : goal.loop-top-smaller
 loop-top-smaller c =
-    let m = c.in-On.ensures in
+    let m = c.in-Some.ensures in
     onward_less _ _ _ _ _ _ _ _ _ _ (onward-at _ _ _ _ _ _ _ _ _ _ c.loop-top-test.true c.loop-top.invariant.1) c.requires.0 _ _ _ _ m.0
 
 pub loop-top-preserved : goal.loop-top-preserved
 loop-top-preserved c =
     let v = c.loop-top.invariant in
-    let m = c.in-On.ensures in
+    let m = c.in-Some.ensures in
     (unchanged_then _ _ _ _ v.0 m.1, onward_on _ _ _ _ _ _ _ _ _ _ (onward-at _ _ _ _ _ _ _ _ _ _ c.loop-top-test.true v.1) _ _ _ _ m.0)
 
-pub returns-in-Circle : goal.returns-in-Circle
-returns-in-Circle c =
+pub returns-in_default : goal.returns-in_default
+returns-in_default c =
     let v = c.loop-top.invariant in
     let t = c.advance.new.table in
-    let m = c.in-Circle.ensures in
+    let m = c.in_default.ensures in
     (onward_circle _ _ _ _ _ _ _ _ _ _ (onward-at _ _ _ _ _ _ _ _ _ _ c.loop-top-test.true v.1) t (colour_in c.args.cells.now t) (path_in c.args.cells.now t) m.0, unchanged_then _ _ _ _ v.0 m.1)
-
-pub shape_of-table-in-Circle : goal.shape_of-table-in-Circle
-shape_of-table-in-Circle c = (returns-in-Circle c).1.long
-
-pub shape_of-table : goal.shape_of-table
-shape_of-table c = c.loop-top.invariant.0.long
 
 pub returns : goal.returns
 returns c =

@@ -10,32 +10,14 @@ argument-argument-requires c = let H = c.requires.0 in (looking_laid _ _ _ _ _ _
 pub find-y-requires : goal.find-y-requires
 find-y-requires c = let H = c.requires.0 in (looking_held _ _ _ _ _ _ _ _ H, looking_found _ _ _ _ _ _ _ _ H _ c.argument-argument.ensures)
 
-pub colours_at-colours-requires : goal.colours_at-colours-requires
-colours_at-colours-requires c = omega (arith, (looking_laid _ _ _ _ _ _ _ _ c.requires.0).small)
-
-pub overflow_add-seen : goal.overflow_add-seen
-overflow_add-seen c = let w = looking_low _ _ _ _ _ _ c.requires in omega (arith, w.1 _ c.find-y.ensures.0, (looking_laid _ _ _ _ _ _ _ _ c.requires.0).small, c.colours_at-colours.ensures)
-
-pub offset_bounds-table-colours : goal.offset_bounds-table-colours
-offset_bounds-table-colours c = let w = looking_low _ _ _ _ _ _ c.requires in omega (arith, w.1 _ c.find-y.ensures.0, (looking_laid _ _ _ _ _ _ _ _ c.requires.0).small, c.colours_at-colours.ensures)
-
 pub bounds-table-colours : goal.bounds-table-colours
 bounds-table-colours c = let w = looking_low _ _ _ _ _ _ c.requires in omega (arith, w.1 _ c.find-y.ensures.0, c.requires.1, c.find-y.ensures.3.long, c.colours_at-colours.ensures)
-
-pub shape_of-table-then-seen-eq-DONE : goal.shape_of-table-then-seen-eq-DONE
-shape_of-table-then-seen-eq-DONE c = search
 
 pub returns-then-seen-eq-DONE : goal.returns-then-seen-eq-DONE
 returns-then-seen-eq-DONE c = looks_ends_in _ _ _ _ _ _ _ c.argument-argument.result.0 _ c.argument-argument.ensures c.find-y.ensures c.requires.1 ((looking_low _ _ _ _ _ _ c.requires).1 _ c.find-y.ensures.0) (rw c.colours_at-colours.ensures at c.if-seen-eq-DONE.true)
 
-pub shape_of-table-then-seen-ne-UNSEEN : goal.shape_of-table-then-seen-ne-UNSEEN
-shape_of-table-then-seen-ne-UNSEEN c = search
-
 pub returns-then-seen-ne-UNSEEN : goal.returns-then-seen-ne-UNSEEN
 returns-then-seen-ne-UNSEEN c = looks_circle_in _ _ _ _ _ _ _ c.argument-argument.result.0 _ c.argument-argument.ensures c.find-y.ensures c.requires.1 ((looking_low _ _ _ _ _ _ c.requires).1 _ c.find-y.ensures.0) (rw c.colours_at-colours.ensures at c.if-seen-eq-DONE.false) (rw c.colours_at-colours.ensures at c.if-seen-ne-UNSEEN.true)
-
-pub pairs_at-requires : goal.pairs_at-requires
-pairs_at-requires c = omega (arith, (looking_laid _ _ _ _ _ _ _ _ c.requires.0).small)
 
 pub overflow_mul-at : goal.overflow_mul-at
 overflow_mul-at c = let w = looking_low _ _ _ _ _ _ c.requires in omega (arith, w.0, (looking_laid _ _ _ _ _ _ _ _ c.requires.0).small, c.colours_at-colours.ensures, c.pairs_at.ensures)
@@ -64,17 +46,8 @@ overflow_add-top c = let w = looking_low _ _ _ _ _ _ c.requires in omega (arith,
 pub enter-requires : goal.enter-requires
 enter-requires c = rw c.pairs_at.ensures (looking_entering _ _ _ _ _ _ _ _ _ c.argument-argument.ensures c.find-y.ensures c.requires)
 
-pub overflow_add-top-2 : goal.overflow_add-top-2
-overflow_add-top-2 c = let w = looking_low _ _ _ _ _ _ c.requires in omega (arith, w.0, (looking_laid _ _ _ _ _ _ _ _ c.requires.0).small, c.colours_at-colours.ensures, c.pairs_at.ensures)
-
 pub returns-then-enter-top : goal.returns-then-enter-top
 returns-then-enter-top c = looks_variable_in _ _ _ _ _ _ _ c.argument-argument.result.0 _ c.argument-argument.ensures c.find-y.ensures c.requires.1 ((looking_low _ _ _ _ _ _ c.requires).1 _ c.find-y.ensures.0) (rw c.colours_at-colours.ensures at c.if-seen-ne-UNSEEN.false) (looking_low _ _ _ _ _ _ c.requires).0 _ c.enter.result (rw c.pairs_at.ensures at c.enter.ensures) c.if-enter-top.true
 
-pub shape_of-table-then-enter-top : goal.shape_of-table-then-enter-top
-shape_of-table-then-enter-top c = (returns-then-enter-top c).1.long
-
 pub returns : goal.returns
 returns c = looks_deeper_in _ _ _ _ _ _ _ c.argument-argument.result.0 _ c.argument-argument.ensures c.find-y.ensures c.requires.1 ((looking_low _ _ _ _ _ _ c.requires).1 _ c.find-y.ensures.0) (rw c.colours_at-colours.ensures at c.if-seen-ne-UNSEEN.false) (looking_low _ _ _ _ _ _ c.requires).0 _ c.enter.result (rw c.pairs_at.ensures at c.enter.ensures) c.if-enter-top.false
-
-pub shape_of-table : goal.shape_of-table
-shape_of-table c = (returns c).1.long

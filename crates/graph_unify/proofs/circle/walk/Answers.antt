@@ -3,23 +3,8 @@ use native.Mathlib.Omega.{arith}
 use Rattle.graph_unify.specs.CircleTurns.{idle_wide, idle_inside, idle-entering, walks_again, walks_ready, walks_on}
 use Rattle.graph_unify.proofs.circle.walk.Goals as goal
 
-pub find-root-requires : goal.find-root-requires
-find-root-requires c = let p = c.requires in ((p.0.0.0, p.0.0.2.shows), p.1)
-
-pub colours_at-colours-requires : goal.colours_at-colours-requires
-colours_at-colours-requires c = omega (arith, c.requires.0.0.2.shows.laid.small)
-
-pub overflow_add-colours : goal.overflow_add-colours
-overflow_add-colours c = omega (arith, idle_inside _ _ _ _ _ _ c.find-root.ensures c.requires.0, c.requires.0.0.2.shows.laid.small, c.colours_at-colours.ensures)
-
-pub offset_bounds-table-colours : goal.offset_bounds-table-colours
-offset_bounds-table-colours c = omega (arith, idle_inside _ _ _ _ _ _ c.find-root.ensures c.requires.0, c.requires.0.0.2.shows.laid.small, c.colours_at-colours.ensures)
-
 pub bounds-table-colours : goal.bounds-table-colours
 bounds-table-colours c = omega (arith, idle_inside _ _ _ _ _ _ c.find-root.ensures c.requires.0, idle_wide _ _ _ _ _ _ c.find-root.ensures c.requires.0, c.colours_at-colours.ensures)
-
-pub shape_of-table-then-table-colours-ne-UNSEEN : goal.shape_of-table-then-table-colours-ne-UNSEEN
-shape_of-table-then-table-colours-ne-UNSEEN c = search
 
 pub returns-then-table-colours-ne-UNSEEN : goal.returns-then-table-colours-ne-UNSEEN
 returns-then-table-colours-ne-UNSEEN c = walks_again _ _ _ _ _ _ c.find-root.ensures c.requires.0 (rw c.colours_at-colours.ensures at c.if-table-colours-ne-UNSEEN.true)
@@ -32,6 +17,3 @@ finish-requires c = walks_ready _ _ _ _ _ _ c.find-root.ensures c.requires.0 c.r
 
 pub returns : goal.returns
 returns c = walks_on _ _ _ _ _ _ c.find-root.ensures c.requires.0 c.requires.1 (rw c.colours_at-colours.ensures at c.if-table-colours-ne-UNSEEN.false) _ c.enter-top.result c.enter-top.ensures _ c.finish.result c.finish.ensures
-
-pub shape_of-table : goal.shape_of-table
-shape_of-table c = (returns c).1.long

@@ -17,8 +17,5 @@ meet-requires c =
     let E = found_as _ _ _ _ _ _ _ p.3 c.find-right.ensures in
     (both_held _ _ _ _ _ _ _ _ F E R, left-root _ _ _ _ _ _ _ _ F E R, right-root _ _ _ _ _ c.args.top _ _ F E, turn-room _ _ _ _ _ _ _ _ F E R p.1)
 
-pub shape_of-table : goal.shape_of-table
-shape_of-table c = search
-
 pub returns : goal.returns
 returns c = let p = c.requires in turn_says _ _ _ _ _ _ _ _ (found_as _ _ _ _ _ _ _ p.2 c.find-left.ensures) (found_as _ _ _ _ _ _ _ p.3 c.find-right.ensures) _ c.meet.result c.meet.ensures

@@ -1,35 +1,10 @@
 -- `unify` meets its contract.
-use mathlib.Core.Path.{◌≡◌, refl, ◌∙◌}
+use mathlib.Core.Path.{◌≡◌, ◌∙◌}
 use Prim.Native.Nat.{◌+◌}
 use native.Mathlib.Omega.{arith}
-use lib.ListN.{length-set}
 use Rattle.graph.specs.Cells.{rows_end}
-use Rattle.graph_unify.specs.Unifies.{first_long, first-held, first_topmost, topmost_at, going_first, joined-first, clash_first, going_at, going_ready, going_few, going_on, going_clash, going_done}
+use Rattle.graph_unify.specs.Unifies.{first_long, first-held, topmost_at, going_first, joined-first, clash_first, going_at, going_ready, going_few, going_on, going_clash, going_done}
 use Rattle.graph_unify.proofs.unify.unify.Goals as goal
-
-pub pairs_at-rows-requires : goal.pairs_at-rows-requires
-pairs_at-rows-requires c = omega (arith, c.requires.0.1.laid.small)
-
-pub offset_bounds-table-rows : goal.offset_bounds-table-rows
-offset_bounds-table-rows c = omega (arith, c.requires.3, c.pairs_at-rows.ensures)
-
-pub bounds-table-rows : goal.bounds-table-rows
-bounds-table-rows c = omega (arith, c.requires.3, c.pairs_at-rows.ensures)
-
-pub overflow_add-table : goal.overflow_add-table
-overflow_add-table c = omega (arith, c.requires.0.1.laid.small, c.pairs_at-rows.ensures)
-
-pub offset_bounds-table-rows-2 : goal.offset_bounds-table-rows-2
-offset_bounds-table-rows-2 c = omega (arith, c.requires.3, c.pairs_at-rows.ensures)
-
-pub bounds-table-rows-2 : goal.bounds-table-rows-2
-bounds-table-rows-2 c = simp length-set (omega (arith, c.requires.3, c.pairs_at-rows.ensures))
-
-pub loop-p-init : goal.loop-p-init
-loop-p-init c = let p = c.requires in rw c.pairs_at-rows.ensures (refl, λ x y G. G, first_topmost c.args.cells.now c.args.table.now c.args.g _ _ p.3 _ refl refl refl)
-
-pub overflow_sub-p : goal.overflow_sub-p
-overflow_sub-p c = omega (arith, c.loop-p-test.true)
 
 pub take_pair-requires : goal.take_pair-requires
 take_pair-requires c =
@@ -56,8 +31,8 @@ loop-p-smaller c =
 pub loop-p-preserved : goal.loop-p-preserved
 loop-p-preserved c =
     let p = c.requires in
-    let E = c.in-On.ensures in
-    rw c.pairs_at-rows.ensures (c.take_pair.auto.table ∙ rw c.pairs_at-rows.ensures at c.loop-p.invariant.0, λ x y F. going_on _ _ _ _ _ _ _ _ (going_at _ _ _ _ _ _ _ _ c.loop-p-test.true ((rw c.pairs_at-rows.ensures at c.loop-p.invariant.1) x y F)) (first-held _ c.args.table.now _ _ _ p.3 p.0) _ _ c.in-On.ensures, E.2)
+    let E = c.in-Some.ensures in
+    rw c.pairs_at-rows.ensures (c.take_pair.auto.table ∙ rw c.pairs_at-rows.ensures at c.loop-p.invariant.0, λ x y F. going_on _ _ _ _ _ _ _ _ (going_at _ _ _ _ _ _ _ _ c.loop-p-test.true ((rw c.pairs_at-rows.ensures at c.loop-p.invariant.1) x y F)) (first-held _ c.args.table.now _ _ _ p.3 p.0) _ _ c.in-Some.ensures, E.2)
 
 pub overflow_add-result : goal.overflow_add-result
 overflow_add-result c =
@@ -66,17 +41,11 @@ overflow_add-result c =
     let n = going_few _ _ _ _ _ _ _ _ G (first-held _ c.args.table.now _ _ _ p.3 p.0) in
     omega (arith, p.0.1.laid.fits, p.0.1.laid.small)
 
-pub shape_of-table-in-Clash : goal.shape_of-table-in-Clash
-shape_of-table-in-Clash c = c.take_pair.auto.table ∙ c.loop-p.invariant.0 ∙ first_long c.args.table.now _ _ _ _
-
-pub returns-in-Clash : goal.returns-in-Clash
-returns-in-Clash c =
+pub returns-in_default : goal.returns-in_default
+returns-in_default c =
     let p = c.requires in
     let G = going_at _ _ _ _ _ _ _ _ c.loop-p-test.true ((rw c.pairs_at-rows.ensures at c.loop-p.invariant.1) _ _ (going_first _ c.args.table.now _ _ _ p.3 p.1 p.2)) in
-    clash_first c.args.cells.now c.args.table.now c.args.g c.args.x.0 c.args.y.0 p.3 c.take_pair.new.table _ (going_clash _ _ _ _ _ _ _ _ G (first-held _ c.args.table.now _ _ _ p.3 p.0) c.take_pair.new.table c.in-Clash.ensures)
-
-pub shape_of-table : goal.shape_of-table
-shape_of-table c = c.loop-p.invariant.0 ∙ first_long c.args.table.now _ _ _ _
+    clash_first c.args.cells.now c.args.table.now c.args.g c.args.x.0 c.args.y.0 p.3 c.take_pair.new.table _ (going_clash _ _ _ _ _ _ _ _ G (first-held _ c.args.table.now _ _ _ p.3 p.0) c.take_pair.new.table c.in_default.ensures)
 
 pub returns : goal.returns
 returns c =

@@ -1,6 +1,7 @@
 -- `seek` meets its contract.
 use mathlib.Core.Path.{sym, ap, ◌∙◌}
-use Rattle.host_search.specs.Ends.{sought_of}
+use Rattle.host_search.specs.Ends.{sought_of, refused_as}
+use Rattle.definition.specs.Answer.{answer}
 use Rattle.host_search.proofs.answer.seek.Goals as goal
 
 pub returns-in-Line : goal.returns-in-Line
@@ -10,4 +11,5 @@ pub returns-in-Fails : goal.returns-in-Fails
 returns-in-Fails c = sym (ap sought_of c.in-Fails.is)
 
 pub returns-in-Refused : goal.returns-in-Refused
-returns-in-Refused c = c.refuse.ensures ∙ sym (ap sought_of c.in-Refused.is)
+unfolding answer
+returns-in-Refused c = refused_as _ _ c.from.ensures ∙ sym (ap sought_of c.in-Refused.is)

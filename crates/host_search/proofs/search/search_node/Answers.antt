@@ -1,5 +1,8 @@
 -- `search_node` meets its contract.
 use Rattle.host_search.specs.Opened.{asking_held, asking_sized, asking_inside, asking_low, asking_node}
+use Rattle.host_search.specs.Ends.{refused_as}
+use Rattle.definition.specs.Answer.{answer}
+use Rattle.definition.specs.declared.Refusal.TheVariants.{Short as ShortOf}
 use Rattle.host_search.specs.Calls.{node_short, node_begins, node-sought}
 use mathlib.Core.Path.{◌∙◌}
 use Rattle.host_search.proofs.search.search_node.Goals as goal
@@ -26,22 +29,20 @@ places_for-places-requires c =
 pub search_from-requires : goal.search_from-requires
 search_from-requires c =
     let i = c.intern_judgment in
-    let J = rw c.in-Id.is at i.ensures in
+    let J = rw c.in-Some.is at i.ensures in
     rw c.places_for-places.ensures
     (node_begins c.args.pack.now c.args.work.now c.args.words.now _ c.args.c c.args.q c.requires _ c.lifting-l.ensures _ _ c.open_store-empty.ensures _ _ i.auto.words _ _ J)
 
-pub shape_of-work-in-Id : goal.shape_of-work-in-Id
-shape_of-work-in-Id c = c.search_from.auto.work ∙ c.intern_judgment.auto.work ∙ c.open_store-empty.auto.work
-
-pub returns-in-Id : goal.returns-in-Id
-returns-in-Id c =
+pub returns : goal.returns
+returns c =
     let i = c.intern_judgment in
-    let J = rw c.in-Id.is at i.ensures in
+    let J = rw c.in-Some.is at i.ensures in
     node-sought c.args.pack.now c.args.work.now c.args.words.now _ c.args.c c.args.q c.requires _ c.lifting-l.ensures _ _ c.open_store-empty.ensures _ _ i.auto.words _ _ J _ c.search_from.result
     (rw c.places_for-places.ensures at c.search_from.ensures)
 
-pub returns-in-Short : goal.returns-in-Short
-returns-in-Short c =
+pub returns-in_default : goal.returns-in_default
+unfolding answer
+returns-in_default c =
     let i = c.intern_judgment in
-    let J = rw c.in-Short.is at i.ensures in
-    node_short c.args.pack.now c.args.work.now c.args.words.now _ c.args.c c.args.q c.requires _ c.lifting-l.ensures _ _ c.open_store-empty.ensures i.new.work i.new.words i.auto.words J _ c.refuse.result c.refuse.ensures
+    let J = rw c.in_default.is at i.ensures in
+    node_short c.args.pack.now c.args.work.now c.args.words.now _ c.args.c c.args.q c.requires _ c.lifting-l.ensures _ _ c.open_store-empty.ensures i.new.work i.new.words i.auto.words J c.args.proof.now _ (refused_as (ShortOf 2) c.from.result c.from.ensures)

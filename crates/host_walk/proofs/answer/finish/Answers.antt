@@ -6,4 +6,4 @@ pub shape_of-patterns : goal.shape_of-patterns
 shape_of-patterns c = search
 
 pub returns : goal.returns
-returns c = let a = c.args in told-done a.patterns.now a.p a.st _ _ c.requires _ (c.used.ensures _ _ c.requires.1) _ c.zero_words_from.ensures
+returns c = let a = c.args in told-done a.patterns.now a.p a.st _ _ c.requires _ (c.used.ensures _ _ c.requires.1) _ c.fill_from.ensures

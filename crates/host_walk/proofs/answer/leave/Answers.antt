@@ -14,4 +14,4 @@ pub shape_of-work : goal.shape_of-work
 shape_of-work c = search
 
 pub returns : goal.returns
-returns c = left-told _ _ _ _ _ _ _ _ c.tell-answer.ensures c.zero_words.ensures (c.zero_words_from.ensures ∙ zeroed-all _)
+returns c = left-told _ _ _ _ _ _ _ _ c.tell-answer.ensures (c.fill.ensures.after (λ y e. e)) (c.fill_from.ensures ∙ zeroed-all _)

@@ -6,4 +6,4 @@ pub shape_of-patterns : goal.shape_of-patterns
 shape_of-patterns c = search
 
 pub returns : goal.returns
-returns c = told-refused _ _ _ _ c.zero_words.ensures
+returns c = told-refused _ _ _ _ (c.fill.ensures.after (λ y e. e))

@@ -3,16 +3,16 @@ use Rattle.host_walk.specs.Walks.{tell_as}
 use Rattle.host_walk.proofs.answer.tell.Goals as goal
 
 pub finish-requires : goal.finish-requires
-finish-requires c = rw c.in-Done.is at c.requires
+finish-requires c = rw c.in-Ok.is at c.requires
 
-pub shape_of-patterns-in-Done : goal.shape_of-patterns-in-Done
-shape_of-patterns-in-Done c = search
+pub shape_of-patterns-in-Ok : goal.shape_of-patterns-in-Ok
+shape_of-patterns-in-Ok c = search
 
-pub returns-in-Done : goal.returns-in-Done
-returns-in-Done c = tell_as c.args.patterns.now c.args.walk _ c.finish.result c.finish.new.patterns _ c.in-Done.is c.finish.ensures
+pub returns-in-Ok : goal.returns-in-Ok
+returns-in-Ok c = tell_as c.args.patterns.now c.args.walk _ c.finish.result c.finish.new.patterns _ c.in-Ok.is c.finish.ensures
 
-pub shape_of-patterns-in-Refused : goal.shape_of-patterns-in-Refused
-shape_of-patterns-in-Refused c = search
+pub shape_of-patterns-in-Err : goal.shape_of-patterns-in-Err
+shape_of-patterns-in-Err c = search
 
-pub returns-in-Refused : goal.returns-in-Refused
-returns-in-Refused c = tell_as c.args.patterns.now c.args.walk _ c.refuse.result c.refuse.new.patterns _ c.in-Refused.is c.refuse.ensures
+pub returns-in-Err : goal.returns-in-Err
+returns-in-Err c = tell_as c.args.patterns.now c.args.walk _ c.refuse.result c.refuse.new.patterns _ c.in-Err.is c.refuse.ensures

@@ -12,14 +12,8 @@ clear-requires c = let L = c.requires.0.lying in (L.room, omega (arith, L.fits, 
 pub resolve-requires : goal.resolve-requires
 resolve-requires c = (back_ready _ _ _ _ _ _ _ _ _ _ c.no_values.ensures _ c.clear.ensures c.requires.0, c.requires.1)
 
-pub shape_of-words-in-Read : goal.shape_of-words-in-Read
-shape_of-words-in-Read c = search
+pub returns : goal.returns
+returns c = let A = c.in-Some.ensures in back_read _ _ _ _ _ _ _ _ _ _ c.no_values.ensures _ c.clear.ensures _ c.resolve.new.work _ c.resolve.auto.words _ _ _ A
 
-pub returns-in-Read : goal.returns-in-Read
-returns-in-Read c = let A = c.in-Read.ensures in back_read _ _ _ _ _ _ _ _ _ _ c.no_values.ensures _ c.clear.ensures _ c.resolve.new.work _ c.resolve.auto.words _ _ _ A
-
-pub shape_of-words-in-Short : goal.shape_of-words-in-Short
-shape_of-words-in-Short c = search
-
-pub returns-in-Short : goal.returns-in-Short
-returns-in-Short c = let A = c.in-Short.ensures in back_short _ _ _ _ _ _ _ _ _ _ c.no_values.ensures _ c.clear.ensures _ c.resolve.new.work c.resolve.new.words c.resolve.auto.words A
+pub returns-in_default : goal.returns-in_default
+returns-in_default c = let A = c.in_default.ensures in back_short _ _ _ _ _ _ _ _ _ _ c.no_values.ensures _ c.clear.ensures _ c.resolve.new.work c.resolve.new.words c.resolve.auto.words A

@@ -12,28 +12,13 @@ pub read_list-requires : goal.read_list-requires
 read_list-requires c = let T = c.open_store-empty.ensures in (T.lifts, T.empty)
 
 pub copy_from-requires : goal.copy_from-requires
-copy_from-requires c = let E = c.in-Whole.ensures in list_stocked c.args.pack.now c.args.from.now c.args.work.now c.args.words.now c.args.cells.now c.args.flex.now c.args.c c.requires _ c.lifting-l.ensures _ _ c.open_store-empty.ensures c.read_list.new.work c.read_list.new.words c.read_list.auto.words _ E
+copy_from-requires c = let E = c.in-Ok.ensures in list_stocked c.args.pack.now c.args.from.now c.args.work.now c.args.words.now c.args.cells.now c.args.flex.now c.args.c c.requires _ c.lifting-l.ensures _ _ c.open_store-empty.ensures c.read_list.new.work c.read_list.new.words c.read_list.auto.words _ E
 
-pub shape_of-cells : goal.shape_of-cells
-shape_of-cells c = search
+pub returns-in-Ok : goal.returns-in-Ok
+returns-in-Ok c = let E = c.in-Ok.ensures in list_copied c.args.pack.now c.args.from.now c.args.work.now c.args.words.now c.args.cells.now c.args.flex.now c.args.c c.requires _ c.lifting-l.ensures _ _ c.open_store-empty.ensures c.read_list.new.work c.read_list.new.words c.read_list.auto.words _ E c.copy_from.new.words c.args.p c.args.copies c.args.read c.copy_from.result c.copy_from.ensures
 
-pub returns-in-Whole : goal.returns-in-Whole
-returns-in-Whole c = let E = c.in-Whole.ensures in list_copied c.args.pack.now c.args.from.now c.args.work.now c.args.words.now c.args.cells.now c.args.flex.now c.args.c c.requires _ c.lifting-l.ensures _ _ c.open_store-empty.ensures c.read_list.new.work c.read_list.new.words c.read_list.auto.words _ E c.copy_from.new.words c.args.p c.args.copies c.args.read c.copy_from.result c.copy_from.ensures
+pub returns-in-Err-Broken : goal.returns-in-Err-Broken
+returns-in-Err-Broken c = let E = rw c.in-Err-Broken.field-0-is at c.in-Err-Broken.ensures in list_broken c.args.pack.now c.args.from.now c.args.work.now c.args.words.now c.args.cells.now c.args.flex.now c.args.c c.requires _ c.lifting-l.ensures _ _ c.open_store-empty.ensures c.read_list.new.work c.read_list.new.words c.read_list.auto.words E c.args.p c.args.copies c.args.read
 
-pub shape_of-work-in-Broken : goal.shape_of-work-in-Broken
-shape_of-work-in-Broken c = search
-
-pub shape_of-words-in-Broken : goal.shape_of-words-in-Broken
-shape_of-words-in-Broken c = search
-
-pub returns-in-Broken : goal.returns-in-Broken
-returns-in-Broken c = let E = c.in-Broken.ensures in list_broken c.args.pack.now c.args.from.now c.args.work.now c.args.words.now c.args.cells.now c.args.flex.now c.args.c c.requires _ c.lifting-l.ensures _ _ c.open_store-empty.ensures c.read_list.new.work c.read_list.new.words c.read_list.auto.words E c.args.p c.args.copies c.args.read
-
-pub shape_of-work-in-Full : goal.shape_of-work-in-Full
-shape_of-work-in-Full c = search
-
-pub shape_of-words-in-Full : goal.shape_of-words-in-Full
-shape_of-words-in-Full c = search
-
-pub returns-in-Full : goal.returns-in-Full
-returns-in-Full c = let E = c.in-Full.ensures in list_full c.args.pack.now c.args.from.now c.args.work.now c.args.words.now c.args.cells.now c.args.flex.now c.args.c c.requires _ c.lifting-l.ensures _ _ c.open_store-empty.ensures c.read_list.new.work c.read_list.new.words c.read_list.auto.words E c.args.p c.args.copies c.args.read
+pub returns-in-Err-Full : goal.returns-in-Err-Full
+returns-in-Err-Full c = let E = rw c.in-Err-Full.field-0-is at c.in-Err-Full.ensures in list_full c.args.pack.now c.args.from.now c.args.work.now c.args.words.now c.args.cells.now c.args.flex.now c.args.c c.requires _ c.lifting-l.ensures _ _ c.open_store-empty.ensures c.read_list.new.work c.read_list.new.words c.read_list.auto.words E c.args.p c.args.copies c.args.read

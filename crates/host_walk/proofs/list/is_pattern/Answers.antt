@@ -11,4 +11,5 @@ pub returns-then-key-gt-KEY : goal.returns-then-key-gt-KEY
 returns-then-key-gt-KEY c = many_no c.args.n c.args.key.now c.if-key.false c.if-key-gt-KEY.true
 
 pub returns : goal.returns
-returns c = c.all_earlier.ensures ∙ ap (earlier c.args.n) (args-lent c.args.key.now c.requires) ∙ few_are c.args.n c.args.key.now c.if-key.false (omega (arith, c.if-key-gt-KEY.false))
+unfolding earlier
+returns c = c.all_below.ensures ∙ ap (earlier c.args.n) (args-lent c.args.key.now c.requires) ∙ few_are c.args.n c.args.key.now c.if-key.false (omega (arith, c.if-key-gt-KEY.false))

@@ -12,34 +12,10 @@ pub take_node-requires : goal.take_node-requires
 take_node-requires c = let g = c.loop-at in (g.invariant.2, g.invariant.3, omega (arith, c.loop-at-test.true))
 
 pub loop-at-smaller : goal.loop-at-smaller
-loop-at-smaller c = let T = c.in-Next.ensures in omega (arith, T.2, T.1.within)
+loop-at-smaller c = let T = c.in_ok-more.ensures in omega (arith, T.2, T.1.within)
 
 pub loop-at-preserved : goal.loop-at-preserved
-loop-at-preserved c = let g = c.loop-at in let k = c.take_node.auto in let T = c.in-Next.ensures in (k.work ∙ g.invariant.0, k.words ∙ g.invariant.1, T.0, T.1, same_then _ _ _ _ g.invariant.4 T.3)
-
-pub shape_of-work-in-Broken : goal.shape_of-work-in-Broken
-shape_of-work-in-Broken c = search
-
-pub shape_of-words-in-Broken : goal.shape_of-words-in-Broken
-shape_of-words-in-Broken c = search
-
-pub returns-in-Broken : goal.returns-in-Broken
-returns-in-Broken c = c.in-Broken.ensures
-
-pub shape_of-work-in-Full : goal.shape_of-work-in-Full
-shape_of-work-in-Full c = search
-
-pub shape_of-words-in-Full : goal.shape_of-words-in-Full
-shape_of-words-in-Full c = search
-
-pub returns-in-Full : goal.returns-in-Full
-returns-in-Full c = c.in-Full.ensures
-
-pub shape_of-work : goal.shape_of-work
-shape_of-work c = search
-
-pub shape_of-words : goal.shape_of-words
-shape_of-words c = search
+loop-at-preserved c = let g = c.loop-at in let k = c.take_node.auto in let T = c.in_ok-more.ensures in (k.work ∙ g.invariant.0, k.words ∙ g.invariant.1, T.0, T.1, same_then _ _ _ _ g.invariant.4 T.3)
 
 pub returns : goal.returns
 returns c = let g = c.loop-at in (g.invariant.2, g.invariant.3.patterns, ended_there _ _ _ _ g.invariant.3 (omega (arith, c.loop-at-test.false)), g.invariant.4)

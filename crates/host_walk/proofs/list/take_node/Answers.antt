@@ -17,23 +17,11 @@ returns-then-from-at c = too_few _ _ _ _ c.requires.1 c.requires.2 (omega (arith
 pub intern_key-requires : goal.intern_key-requires
 intern_key-requires c = (indexed _ _ _ _ _ _ c.requires.0, search rules)
 
-pub shape_of-work-in-Id : goal.shape_of-work-in-Id
-shape_of-work-in-Id c = search
-
-pub shape_of-words-in-Id : goal.shape_of-words-in-Id
-shape_of-words-in-Id c = search
-
-pub returns-in-Id : goal.returns-in-Id
-returns-in-Id c = let I = c.in-Id.ensures in turned_next _ _ _ _ c.requires.1 c.requires.2 _ refl (omega (arith, c.if-from-at.false, c.if-from-at-lt2.false)) (pattern_count _ _ _ _ _ _ c.requires.0 _ ∙ sym c.is_pattern.ensures ∙ c.if-is_pattern.true) _ _ _ _ _ _ c.requires.0 c.intern_key.auto.words _ _ I
-
-pub shape_of-work-in-Short : goal.shape_of-work-in-Short
-shape_of-work-in-Short c = search
-
-pub shape_of-words-in-Short : goal.shape_of-words-in-Short
-shape_of-words-in-Short c = search
-
-pub returns-in-Short : goal.returns-in-Short
-returns-in-Short c = let I = c.in-Short.ensures in turned_full _ _ _ _ c.requires.1 c.requires.2 _ refl (omega (arith, c.if-from-at.false, c.if-from-at-lt2.false)) (pattern_count _ _ _ _ _ _ c.requires.0 _ ∙ sym c.is_pattern.ensures ∙ c.if-is_pattern.true) _ _ c.intern_key.new.work c.intern_key.new.words _ _ c.requires.0 c.intern_key.auto.words I
-
 pub returns : goal.returns
-returns c = no_pattern _ _ _ _ c.requires.1 c.requires.2 _ refl (omega (arith, c.if-from-at.false)) (pattern_count _ _ _ _ _ _ c.requires.0 _ ∙ sym c.is_pattern.ensures ∙ c.if-is_pattern.false)
+returns c = let I = c.in-Some.ensures in turned_next _ _ _ _ c.requires.1 c.requires.2 _ refl (omega (arith, c.if-from-at.false, c.if-from-at-lt2.false)) (pattern_count _ _ _ _ _ _ c.requires.0 _ ∙ sym c.is_pattern.ensures ∙ c.if-not-is_pattern.false) _ _ _ _ _ _ c.requires.0 c.intern_key.auto.words _ _ I
+
+pub returns-in_default : goal.returns-in_default
+returns-in_default c = let I = c.in_default.ensures in turned_full _ _ _ _ c.requires.1 c.requires.2 _ refl (omega (arith, c.if-from-at.false, c.if-from-at-lt2.false)) (pattern_count _ _ _ _ _ _ c.requires.0 _ ∙ sym c.is_pattern.ensures ∙ c.if-not-is_pattern.false) _ _ c.intern_key.new.work c.intern_key.new.words _ _ c.requires.0 c.intern_key.auto.words I
+
+pub returns-then-not-is_pattern : goal.returns-then-not-is_pattern
+returns-then-not-is_pattern c = no_pattern _ _ _ _ c.requires.1 c.requires.2 _ refl (omega (arith, c.if-from-at.false)) (pattern_count _ _ _ _ _ _ c.requires.0 _ ∙ sym c.is_pattern.ensures ∙ c.if-not-is_pattern.true)

@@ -10,13 +10,13 @@ pub result_step-s-requires : goal.result_step-s-requires
 result_step-s-requires c =
     let p = c.requires in
     let a = c.args in
-    (readable _ _ _ p.0, result_recorded _ _ _ p.0 a.g _ c.in-At.ensures)
+    (readable _ _ _ p.0, result_recorded _ _ _ p.0 a.g _ c.in_ok-i.ensures)
 
 pub step_judgment-requires : goal.step_judgment-requires
 step_judgment-requires c =
     let p = c.requires in
     let a = c.args in
-    (readable _ _ _ p.0, step_recorded _ _ _ p.0 a.g _ c.in-At.ensures _ c.result_step-s.ensures)
+    (readable _ _ _ p.0, step_recorded _ _ _ p.0 a.g _ c.in_ok-i.ensures _ c.result_step-s.ensures)
 
 pub goal_judgment-requires : goal.goal_judgment-requires
 goal_judgment-requires c = let p = c.requires in (readable _ _ _ p.0, p.1)
@@ -25,13 +25,13 @@ pub returns-then-step_judgment-goal_judgment : goal.returns-then-step_judgment-g
 returns-then-step_judgment-goal_judgment c =
     let p = c.requires in
     let a = c.args in
-    step_same _ _ _ p.0 a.g _ c.in-At.ensures _ c.result_step-s.ensures _ _ c.step_judgment.ensures c.goal_judgment.ensures c.if-step_judgment-goal_judgment.true
+    step_same _ _ _ p.0 a.g _ c.in_ok-i.ensures _ c.result_step-s.ensures _ _ c.step_judgment.ensures c.goal_judgment.ensures c.if-step_judgment-goal_judgment.true
 
-pub returns-in-At : goal.returns-in-At
-returns-in-At c =
+pub returns-else-step_judgment-goal_judgment : goal.returns-else-step_judgment-goal_judgment
+returns-else-step_judgment-goal_judgment c =
     let p = c.requires in
     let a = c.args in
-    step_other _ _ _ p.0 a.g _ c.in-At.ensures _ c.result_step-s.ensures _ _ c.step_judgment.ensures c.goal_judgment.ensures c.if-step_judgment-goal_judgment.false
+    step_other _ _ _ p.0 a.g _ c.in_ok-i.ensures _ c.result_step-s.ensures _ _ c.step_judgment.ensures c.goal_judgment.ensures c.if-step_judgment-goal_judgment.false
 
-pub returns-in-Nowhere : goal.returns-in-Nowhere
-returns-in-Nowhere c = let a = c.args in step-none _ _ _ a.g c.in-Nowhere.ensures
+pub returns-in_err-i : goal.returns-in_err-i
+returns-in_err-i c = rw c.from_residual.ensures (step-none _ _ _ c.args.g c.in_err-i.ensures)

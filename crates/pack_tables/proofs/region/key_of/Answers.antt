@@ -8,10 +8,10 @@ use Rattle.pack_tables.specs.Place.{key_at}
 use Rattle.pack_tables.proofs.region.key_of.Goals as goal
 
 pub overflow_cast-at : goal.overflow_cast-at
-overflow_cast-at c = omega (arith, c.shared_slice_known-3-1.given (2 * c.args.i + 1))
+overflow_cast-at c = omega (arith, c.type_inv.region (2 * c.args.i + 1))
 
 pub overflow_cast-from : goal.overflow_cast-from
-overflow_cast-from c = omega (arith, c.shared_slice_known-4-1.given (2 * c.args.i + 2))
+overflow_cast-from c = omega (arith, c.type_inv.region (2 * c.args.i + 2))
 
 pub end_of-end-requires : goal.end_of-end-requires
 end_of-end-requires c = let F = c.requires.0.framed c.args.i c.requires.1 in omega (arith, F.starts, F.ends, F.whole)

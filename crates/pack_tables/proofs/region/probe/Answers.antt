@@ -15,7 +15,7 @@ loop-id-init c =
     (P, P.ran.inside)
 
 pub overflow_cast-id : goal.overflow_cast-id
-overflow_cast-id c = omega (arith, c.shared_slice_known-in-loop-id-1.given c.loop-id.s)
+overflow_cast-id c = omega (arith, c.type_inv.slots c.loop-id.s)
 
 pub has-requires : goal.has-requires
 has-requires c = (c.requires.keyed.kept, omega (arith, search_id _ _ _ _ _ _ c.requires c.loop-id.s c.loop-id.invariant.1))

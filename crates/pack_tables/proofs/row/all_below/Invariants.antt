@@ -9,6 +9,3 @@ use Rattle.pack_tables.proofs.row.all_below.Given as goal
 
 abbrev pub invariant-loop-i : goal.invariant-loop-i
 invariant-loop-i l = all (λ w. ltb w l.bound) (words (l.n - l.i) (drop (l.at + 4 * l.i) l.body)) ≡ all (λ w. ltb w l.bound) (words l.n (drop l.at l.body))
-
-abbrev pub decreases-loop-i : goal.decreases-loop-i
-decreases-loop-i l = l.n - l.i

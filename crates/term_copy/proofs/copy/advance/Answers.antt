@@ -16,9 +16,6 @@ passes-requires c =
     let A = R.2.holds.apart in
     (A.table, omega (arith, A.stack, A.marks, A.rows), ready_inside _ _ _ _ _ _ _ _ _ R, ready_known _ _ _ _ _ _ _ _ _ R)
 
-pub shape_of-work-then-passes : goal.shape_of-work-then-passes
-shape_of-work-then-passes c = search
-
 pub returns-then-passes : goal.returns-then-passes
 returns-then-passes c = let a = c.args in advance_passed a.work.now a.words.now a.cells.now a.flex.now a.l a.st a.memo a.g a.top c.passes.result c.passes.ensures c.if-passes.true
 
@@ -27,18 +24,6 @@ offset_bounds-work-at c = omega (arith, ready_inside _ _ _ _ _ _ _ _ _ c.require
 
 pub bounds-work-at : goal.bounds-work-at
 bounds-work-at c = omega (arith, ready_inside _ _ _ _ _ _ _ _ _ c.requires)
-
-pub offset_bounds-work-from : goal.offset_bounds-work-from
-offset_bounds-work-from c = omega arith
-
-pub slice_bounds-node-count : goal.slice_bounds-node-count
-slice_bounds-node-count c = omega arith
-
-pub slice_bounds-node-start : goal.slice_bounds-node-start
-slice_bounds-node-start c = omega arith
-
-pub slice_bounds-node-end : goal.slice_bounds-node-end
-slice_bounds-node-end c = omega arith
 
 pub node-key-requires : goal.node-key-requires
 unfolding part
@@ -59,9 +44,6 @@ overflow_add-result c =
     let a = c.args in
     omega (arith, (ready_deeper a.work.now a.words.now a.cells.now a.flex.now a.l a.st a.memo a.g a.top c.requires c.passes.result c.passes.ensures c.if-passes.false _ c.node-key.ensures c.is_left.result c.is_left.ensures c.if-is_left.true).inside)
 
-pub shape_of-work-then-is_left : goal.shape_of-work-then-is_left
-shape_of-work-then-is_left c = c.deepen.auto.work
-
 pub returns-then-is_left : goal.returns-then-is_left
 returns-then-is_left c =
     let a = c.args in
@@ -72,26 +54,14 @@ copy_node-requires c =
     let a = c.args in
     ready_ripe a.work.now a.words.now a.cells.now a.flex.now a.l a.st a.memo a.g a.top c.requires c.passes.result c.passes.ensures c.if-passes.false _ c.node-key.ensures c.is_left.result c.is_left.ensures c.if-is_left.false
 
-pub shape_of-work-in-At : goal.shape_of-work-in-At
-shape_of-work-in-At c = c.copy_node.auto.work
-
-pub shape_of-cells-in-At : goal.shape_of-cells-in-At
-shape_of-cells-in-At c = c.copy_node.auto.cells
-
-pub returns-in-At : goal.returns-in-At
-returns-in-At c =
+pub returns : goal.returns
+returns c =
     let a = c.args in
     let v = c.copy_node in
-    advance_copied a.work.now a.words.now a.cells.now a.flex.now a.l a.st a.memo a.g a.top c.requires c.passes.result c.passes.ensures c.if-passes.false _ c.node-key.ensures c.is_left.result c.is_left.ensures c.if-is_left.false v.new.work v.new.cells v.auto.cells v.result v.ensures _ _ c.in-At.is
+    advance_copied a.work.now a.words.now a.cells.now a.flex.now a.l a.st a.memo a.g a.top c.requires c.passes.result c.passes.ensures c.if-passes.false _ c.node-key.ensures c.is_left.result c.is_left.ensures c.if-is_left.false v.new.work v.new.cells v.auto.cells v.result v.ensures _ _ c.in_ok-h.was
 
-pub shape_of-work-in-Short : goal.shape_of-work-in-Short
-shape_of-work-in-Short c = c.copy_node.auto.work
-
-pub shape_of-cells-in-Short : goal.shape_of-cells-in-Short
-shape_of-cells-in-Short c = c.copy_node.auto.cells
-
-pub returns-in-Short : goal.returns-in-Short
-returns-in-Short c =
+pub returns-in_err-h : goal.returns-in_err-h
+returns-in_err-h c =
     let a = c.args in
     let v = c.copy_node in
-    advance_short a.work.now a.words.now a.cells.now a.flex.now a.l a.st a.memo a.g a.top c.requires c.passes.result c.passes.ensures c.if-passes.false _ c.node-key.ensures c.is_left.result c.is_left.ensures c.if-is_left.false v.new.work v.new.cells v.auto.cells v.result v.ensures c.in-Short.is
+    rw c.from_residual.ensures (advance_short a.work.now a.words.now a.cells.now a.flex.now a.l a.st a.memo a.g a.top c.requires c.passes.result c.passes.ensures c.if-passes.false _ c.node-key.ensures c.is_left.result c.is_left.ensures c.if-is_left.false v.new.work v.new.cells v.auto.cells v.result v.ensures c.in_err-h.was)

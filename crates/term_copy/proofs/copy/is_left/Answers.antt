@@ -13,8 +13,5 @@ use Rattle.term_copy.proofs.copy.is_left.Goals as goal
 pub returns-then-key : goal.returns-then-key
 returns-then-key c = let a = c.args in sym (le-ltb (get_or a.work.now (a.at + 1) 0) (length (below (node_with a.key.now))) (omega (arith, kids-variable a.key.now c.if-key.true)))
 
-pub overflow_cast-result : goal.overflow_cast-result
-overflow_cast-result c = omega (arith, c.shared_slice_known-2-1.given (c.args.at + 1))
-
 pub returns : goal.returns
 returns c = let a = c.args in ap (ltb (get_or a.work.now (a.at + 1) 0)) (kids-applied a.key.now c.if-key.false)

@@ -21,12 +21,6 @@ returns-then-lacks_room c =
     let h = leb-true (length a.cells.now - a.g.used) (length a.key.now - 1) (sym c.lacks_room.ensures ∙ c.if-lacks_room.true) in
     (no_room a.cells.now a.cells.now rows rows a.g (applied (get_or a.key.now 0 0) ys) (omega (arith, h, c.requires.3.1.laid.fits, length-map (drop 1 a.key.now) (copy_in a.work.now a.l a.memo), length-drop 1 a.key.now)), outside_none _ _ a.work.now)
 
-pub slice_bounds-gather-end : goal.slice_bounds-gather-end
-slice_bounds-gather-end c =
-    let a = c.args in
-    let h = leb-false (length a.cells.now - a.g.used) (length a.key.now - 1) (sym c.lacks_room.ensures ∙ c.if-lacks_room.false) in
-    omega (arith, h)
-
 pub push_laid-requires : goal.push_laid-requires
 unfolding part
 push_laid-requires c =

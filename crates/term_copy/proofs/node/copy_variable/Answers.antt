@@ -7,12 +7,6 @@ pub var-requires : goal.var-requires
 unfolding part
 var-requires c = rw c.pairs_at.ensures c.requires.1.1.laid
 
-pub shape_of-work : goal.shape_of-work
-shape_of-work c = search
-
-pub shape_of-cells : goal.shape_of-cells
-shape_of-cells c = search
-
 pub returns : goal.returns
 unfolding part
 returns c =

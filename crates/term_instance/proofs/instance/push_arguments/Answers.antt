@@ -1,16 +1,6 @@
 -- `push_arguments` meets its contract: with each turn one pair more stands on the worklist, and those left give the whole.
-use native.Mathlib.Omega.{arith}
-use Rattle.term_instance.specs.Pushes.{pushing_none, pushing_stored, pushing_readable, pushing_ground, pushing_argument, pushing_beside, pushing_room, pushing_more, pushing_all}
+use Rattle.term_instance.specs.Pushes.{pushing_stored, pushing_readable, pushing_ground, pushing_argument, pushing_beside, pushing_more, pushing_all}
 use Rattle.term_instance.proofs.instance.push_arguments.Goals as goal
-
-pub loop-i-init : goal.loop-i-init
-loop-i-init c = pushing_none _ _ _ _ _ _ _ _ _ _ c.requires
-
-pub slice_bounds-argument-start : goal.slice_bounds-argument-start
-slice_bounds-argument-start c = let Q = c.requires in let K = c.loop-i.invariant in omega (arith, Q.index, Q.room, Q.fits, K.outside.long)
-
-pub slice_bounds-argument-end : goal.slice_bounds-argument-end
-slice_bounds-argument-end c = let Q = c.requires in let K = c.loop-i.invariant in omega (arith, Q.index, Q.room, Q.fits, K.outside.long)
 
 pub argument-x-requires : goal.argument-x-requires
 argument-x-requires c =
@@ -24,18 +14,6 @@ node_argument-m-requires c =
     let K = c.loop-i.invariant in
     (pushing_readable _ _ _ _ _ _ _ _ _ _ Q _ _ _ K, pushing_ground _ _ _ _ _ _ _ _ _ _ Q _ _ _ K, pushing_beside _ _ _ _ _ _ _ _ _ _ Q _ _ _ K c.loop-i-test.true)
 
-pub put_pair-requires : goal.put_pair-requires
-put_pair-requires c =
-    let Q = c.requires in
-    let K = c.loop-i.invariant in
-    pushing_room _ _ _ _ _ _ _ _ _ _ Q _ _ _ K c.loop-i-test.true
-
-pub overflow_add-on : goal.overflow_add-on
-overflow_add-on c =
-    let Q = c.requires in
-    let K = c.loop-i.invariant in
-    omega (arith, pushing_room _ _ _ _ _ _ _ _ _ _ Q _ _ _ K c.loop-i-test.true, Q.fits, Q.room, K.count)
-
 pub loop-i-preserved : goal.loop-i-preserved
 loop-i-preserved c =
     let Q = c.requires in
@@ -43,9 +21,6 @@ loop-i-preserved c =
     let x = c.argument-x in
     let m = c.node_argument-m in
     pushing_more _ _ _ _ _ _ _ _ _ _ Q _ _ _ K c.loop-i-test.true x.result m.result.0 x.ensures m.ensures _ c.put_pair.ensures
-
-pub shape_of-work : goal.shape_of-work
-shape_of-work c = search
 
 pub returns : goal.returns
 returns c =

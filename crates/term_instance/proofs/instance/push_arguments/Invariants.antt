@@ -4,6 +4,3 @@ use Rattle.term_instance.proofs.instance.push_arguments.Given as goal
 
 abbrev pub invariant-loop-i : goal.invariant-loop-i
 invariant-loop-i l = Pushing l.pack l.initial.work l.work l.words l.c l.l l.st l.top l.p.0 l.n.0 l.k l.on l.i
-
-abbrev pub decreases-loop-i : goal.decreases-loop-i
-decreases-loop-i l = l.i

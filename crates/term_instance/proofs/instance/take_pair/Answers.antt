@@ -24,20 +24,8 @@ offset_bounds-work-at-2 c = let Q = c.requires in omega (arith, ready_inside _ _
 pub bounds-work-at-2 : goal.bounds-work-at-2
 bounds-work-at-2 c = let Q = c.requires in omega (arith, ready_inside _ _ _ _ _ _ _ _ _ Q)
 
-pub slice_bounds-head-start : goal.slice_bounds-head-start
-slice_bounds-head-start c = let Q = c.requires in omega (arith, Q.given.index, ready_inside _ _ _ _ _ _ _ _ _ Q)
-
-pub slice_bounds-head-end : goal.slice_bounds-head-end
-slice_bounds-head-end c = let Q = c.requires in omega (arith, Q.given.index, ready_inside _ _ _ _ _ _ _ _ _ Q)
-
 pub head-head-requires : goal.head-head-requires
 head-head-requires c = let Q = c.requires in (Q.given.stored, ready_pattern _ _ _ _ _ _ _ _ _ Q)
-
-pub slice_bounds-argument-start : goal.slice_bounds-argument-start
-slice_bounds-argument-start c = let Q = c.requires in omega (arith, Q.given.index, ready_inside _ _ _ _ _ _ _ _ _ Q)
-
-pub slice_bounds-argument-end : goal.slice_bounds-argument-end
-slice_bounds-argument-end c = let Q = c.requires in omega (arith, Q.given.index, ready_inside _ _ _ _ _ _ _ _ _ Q)
 
 pub argument-k-requires : goal.argument-k-requires
 argument-k-requires c =
@@ -51,17 +39,11 @@ bind-requires c =
     let v = ready_variable _ _ _ _ _ _ _ _ _ Q _ c.head-head.ensures c.if-head.true in
     ready_bindable _ _ _ _ _ _ _ _ _ Q v _ c.argument-k.ensures
 
-pub shape_of-work-then-bind : goal.shape_of-work-then-bind
-shape_of-work-then-bind c = search
-
 pub returns-then-bind : goal.returns-then-bind
 returns-then-bind c =
     let Q = c.requires in
     let v = ready_variable _ _ _ _ _ _ _ _ _ Q _ c.head-head.ensures c.if-head.true in
     takes-bound _ _ _ _ _ _ _ _ _ Q v _ c.argument-k.ensures _ _ c.bind.ensures c.if-bind.true
-
-pub shape_of-work-then-head : goal.shape_of-work-then-head
-shape_of-work-then-head c = search
 
 pub returns-then-head : goal.returns-then-head
 returns-then-head c =
@@ -71,9 +53,3 @@ returns-then-head c =
 
 pub meet-requires : goal.meet-requires
 meet-requires c = let Q = c.requires in ready_applied _ _ _ _ _ _ _ _ _ Q _ c.head-head.ensures c.if-head.false
-
-pub shape_of-work : goal.shape_of-work
-shape_of-work c = search
-
-pub returns : goal.returns
-returns c = c.meet.ensures

@@ -1,5 +1,5 @@
 -- `count_up` meets its contract.
-use mathlib.Core.Path.{◌≡◌, refl, ◌∙◌}
+use mathlib.Core.Path.{refl, ◌∙◌}
 use native.Mathlib.Omega.{arith}
 use lib.ListN.{length-set}
 use Rattle.definition.specs.Graph.{up_to}
@@ -12,6 +12,3 @@ loop-i-init c = (omega arith, refl, refl)
 
 pub loop-i-preserved : goal.loop-i-preserved
 loop-i-preserved c = let g = c.loop-i in (omega arith, length-set g.env g.i g.i ∙ g.invariant.1, up_more g.env g.i (omega (arith, g.invariant.1, c.requires.0)) g.invariant.2)
-
-pub returns : goal.returns
-returns c = let g = c.loop-i in let e : g.i ≡ c.args.n = omega (arith, g.invariant.0) in rw (← e) g.invariant.2

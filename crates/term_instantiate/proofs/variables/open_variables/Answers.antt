@@ -2,18 +2,8 @@
 use native.Mathlib.Omega.{arith}
 use Rattle.base.specs.Part.{part}
 use Rattle.pack_read.specs.Held.{readable}
-use Rattle.term_instantiate.specs.Variables.{table_long, first-none, first-held, first_reads, first_more, first-full, first-all, none-held, none-room, none_shows, opens_on, opens_full}
+use Rattle.term_instantiate.specs.Variables.{first-none, first-held, first_reads, first_more, first-full, first-all, none-held, none-room, none_shows, opens_on, opens_full}
 use Rattle.term_instantiate.proofs.variables.open_variables.Goals as goal
-
-pub slice_bounds-new-start : goal.slice_bounds-new-start
-slice_bounds-new-start c = omega (arith, c.requires.room.fits)
-
-pub slice_bounds-new-end : goal.slice_bounds-new-end
-slice_bounds-new-end c = omega (arith, c.requires.room.within)
-
-pub new-g-requires : goal.new-g-requires
-unfolding part
-new-g-requires c = let A = c.requires in (table_long _ _ _ _ A.room, A.small)
 
 pub loop-k-init : goal.loop-k-init
 unfolding part
@@ -27,21 +17,12 @@ rule_var-sort-requires c =
     let H = first-held _ _ _ _ _ (none-held _ _ _ _ _ _ A N.1) (none-room _ _ _ _ _ _ A N.1) _ _ _ _ c.loop-k.invariant in
     (readable _ _ _ H, omega (arith, A.rule, H.reads.rules.many), omega (arith, c.loop-k-test.true, A.many))
 
-pub slice_bounds-var-start : goal.slice_bounds-var-start
-slice_bounds-var-start c = omega (arith, c.requires.room.fits)
-
 pub var-requires : goal.var-requires
 unfolding part
 var-requires c =
     let A = c.requires in
     let H = none-held _ _ _ _ _ _ A c.new-g.ensures.1 in
     (c.loop-k.invariant.shows H.pack H.reads A.many).0.laid
-
-pub overflow_add-k : goal.overflow_add-k
-overflow_add-k c = let A = c.requires in omega (arith, c.loop-k-test.true, A.many, (A.held.proper.good.rules _ A.rule).variables)
-
-pub loop-k-smaller : goal.loop-k-smaller
-loop-k-smaller c = omega (arith, c.loop-k-test.true)
 
 pub loop-k-preserved : goal.loop-k-preserved
 unfolding part
@@ -51,11 +32,11 @@ loop-k-preserved c =
     let H = none-held _ _ _ _ _ _ A N.1 in
     let R = none-room _ _ _ _ _ _ A N.1 in
     let F = c.loop-k.invariant in
-    first_more _ _ _ _ _ H R _ _ _ _ F c.loop-k-test.true _ (λ P Q. c.rule_var-sort.ensures P (first_reads _ _ _ _ _ H R _ _ _ _ F P Q)) _ _ c.var.auto.cells c.in-At.field-0 _ c.in-At.ensures
+    first_more _ _ _ _ _ H R _ _ _ _ F c.loop-k-test.true _ (λ P Q. c.rule_var-sort.ensures P (first_reads _ _ _ _ _ H R _ _ _ _ F P Q)) _ _ c.var.auto.cells _ _ c.in_ok-g.ensures
 
-pub returns-in-Short : goal.returns-in-Short
+pub returns-in_err-g : goal.returns-in_err-g
 unfolding part
-returns-in-Short c =
+returns-in_err-g c =
     let A = c.requires in
     let N = c.new-g.ensures in
     let H = none-held _ _ _ _ _ _ A N.1 in
@@ -63,7 +44,7 @@ returns-in-Short c =
     let F = c.loop-k.invariant in
     let z = c.var.new in
     let w = c.args.work.now in
-    opens_full _ _ _ _ _ _ A N.1 w z.cells (first-full _ _ _ _ _ H R _ _ _ _ F c.loop-k-test.true _ (λ P Q. c.rule_var-sort.ensures P (first_reads _ _ _ _ _ H R _ _ _ _ F P Q)) z.cells z.table w c.in-Short.ensures)
+    rw c.from_residual.ensures (opens_full _ _ _ _ _ _ A N.1 w z.cells (first-full _ _ _ _ _ H R _ _ _ _ F c.loop-k-test.true _ (λ P Q. c.rule_var-sort.ensures P (first_reads _ _ _ _ _ H R _ _ _ _ F P Q)) z.cells z.table w c.in_err-g.ensures))
 
 pub returns : goal.returns
 unfolding part

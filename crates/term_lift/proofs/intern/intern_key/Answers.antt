@@ -7,12 +7,6 @@ pub intern-requires : goal.intern-requires
 unfolding part
 intern-requires c = let p = c.requires in (p.0.index, p.1)
 
-pub shape_of-work : goal.shape_of-work
-shape_of-work c = search
-
-pub shape_of-words : goal.shape_of-words
-shape_of-words c = search
-
 pub returns : goal.returns
 unfolding part
 returns c = let p = c.requires in interns _ _ _ _ p.0 c.intern.new.index c.intern.new.words _ c.intern.auto.index c.intern.result c.intern.ensures

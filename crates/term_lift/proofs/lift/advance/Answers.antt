@@ -1,12 +1,8 @@
 -- `advance` meets its contract.
-use Prim.Native.Nat.{◌+◌, ◌*◌}
 use native.Mathlib.Omega.{arith}
 use Rattle.pack_read.specs.Held.{readable}
 use Rattle.term_lift.specs.Turns.{turn_inside, turn-given, turn_recorded, turn_passed, turn-left, turn_small, turn-above, turn_entered, turn_ripe, turn_finished, turn_short}
 use Rattle.term_lift.proofs.lift.advance.Goals as goal
-
-pub overflow_add-at : goal.overflow_add-at
-overflow_add-at c = let R = c.requires in omega (arith, turn_inside _ _ _ _ _ _ _ R)
 
 pub overflow_mul-at : goal.overflow_mul-at
 overflow_mul-at c = let R = c.requires in omega (arith, turn_inside _ _ _ _ _ _ _ R)
@@ -29,20 +25,11 @@ offset_bounds-work-at-2 c = let R = c.requires in omega (arith, turn_inside _ _ 
 pub bounds-work-at-2 : goal.bounds-work-at-2
 bounds-work-at-2 c = let R = c.requires in omega (arith, turn_inside _ _ _ _ _ _ _ R)
 
-pub overflow_cast-n : goal.overflow_cast-n
-overflow_cast-n c = let R = c.requires in let L = R.lifts.laid in omega (arith, turn-given _ _ _ _ _ _ _ R, L.fits, L.inside)
-
-pub overflow_cast-taken : goal.overflow_cast-taken
-overflow_cast-taken c = omega (arith, c.slice_known-4-1.given (c.args.l.at + c.args.l.nodes + 2 * c.args.top + 1))
-
 pub passes-requires : goal.passes-requires
 passes-requires c = let R = c.requires in let L = R.lifts.laid in omega (arith, turn-given _ _ _ _ _ _ _ R, L.fits, L.inside)
 
 pub returns-then-passes : goal.returns-then-passes
 returns-then-passes c = turn_passed _ _ _ _ _ _ _ c.requires c.passes.result c.passes.ensures c.if-passes.true
-
-pub overflow_cast-taken-2 : goal.overflow_cast-taken-2
-overflow_cast-taken-2 c = omega (arith, c.slice_known-4-1.given (c.args.l.at + c.args.l.nodes + 2 * c.args.top + 1))
 
 pub node_arity-requires : goal.node_arity-requires
 node_arity-requires c = let R = c.requires in (readable _ _ _ R.lifts.laid.held, turn_recorded _ _ _ _ _ _ _ R)
@@ -62,8 +49,8 @@ returns-then-taken-node_arity c = rw c.enter.ensures (let R = c.requires in turn
 pub finish-requires : goal.finish-requires
 finish-requires c = let R = c.requires in (R.lifts.laid, let R = c.requires in turn_ripe _ _ _ _ _ _ _ R c.passes.result c.passes.ensures c.if-passes.false c.node_arity.result c.node_arity.ensures c.if-taken-node_arity.false)
 
-pub returns-in-Id : goal.returns-in-Id
-returns-in-Id c = let R = c.requires in turn_finished _ _ _ _ _ _ _ R c.passes.result c.passes.ensures c.if-passes.false c.node_arity.result c.node_arity.ensures c.if-taken-node_arity.false c.finish.new.work c.finish.new.words c.in-Id.field-0 _ c.in-Id.ensures
+pub returns : goal.returns
+returns c = let R = c.requires in turn_finished _ _ _ _ _ _ _ R c.passes.result c.passes.ensures c.if-passes.false c.node_arity.result c.node_arity.ensures c.if-taken-node_arity.false c.finish.new.work c.finish.new.words c.in_ok-more.field-0-0 _ c.in_ok-more.ensures
 
-pub returns-in-Short : goal.returns-in-Short
-returns-in-Short c = let R = c.requires in turn_short _ _ _ _ _ _ _ R c.passes.result c.passes.ensures c.if-passes.false c.node_arity.result c.node_arity.ensures c.if-taken-node_arity.false c.finish.new.work c.finish.new.words c.in-Short.ensures
+pub returns-in_err-more : goal.returns-in_err-more
+returns-in_err-more c = let R = c.requires in rw c.from_residual.ensures (turn_short _ _ _ _ _ _ _ R c.passes.result c.passes.ensures c.if-passes.false c.node_arity.result c.node_arity.ensures c.if-taken-node_arity.false c.finish.new.work c.finish.new.words c.in_err-more.ensures)

@@ -21,9 +21,6 @@ word_at-taken-requires c = rw c.pairs_at.ensures (turning_there _ _ _ _ _ _ _ _ 
 pub passes-requires : goal.passes-requires
 passes-requires c = (at-word _ _ _ _ _ _ _ _ _ _ _ _ c.requires _ _ (rw c.pairs_at.ensures at c.word_at.ensures) (rw c.pairs_at.ensures at c.word_at-taken.ensures), (turning_there _ _ _ _ _ _ _ _ _ _ _ _ c.requires).1)
 
-pub shape_of-work-then-passes : goal.shape_of-work-then-passes
-shape_of-work-then-passes c = search
-
 pub returns-then-passes : goal.returns-then-passes
 returns-then-passes c = at_passed _ _ _ _ _ _ _ _ _ _ _ _ c.requires _ _ (rw c.pairs_at.ensures at c.word_at.ensures) (rw c.pairs_at.ensures at c.word_at-taken.ensures) c.passes.result c.passes.ensures c.if-passes.true
 
@@ -36,29 +33,14 @@ enter-requires c = at-entering _ _ _ _ _ _ _ _ _ _ _ _ c.requires _ _ (rw c.pair
 pub overflow_add-result : goal.overflow_add-result
 overflow_add-result c = omega (arith, turning_top _ _ _ _ _ _ _ _ _ _ _ _ c.requires, turning_small _ _ _ _ _ _ _ _ _ _ _ _ c.requires)
 
-pub shape_of-work-then-taken-count : goal.shape_of-work-then-taken-count
-shape_of-work-then-taken-count c = search
-
 pub returns-then-taken-count : goal.returns-then-taken-count
 returns-then-taken-count c = at_entered _ _ _ _ _ _ _ _ _ _ _ _ c.requires _ _ (rw c.pairs_at.ensures at c.word_at.ensures) (rw c.pairs_at.ensures at c.word_at-taken.ensures) c.passes.result c.passes.ensures c.if-passes.false c.count.result c.count.ensures c.if-taken-count.true c.enter.new.work c.enter.ensures
 
 pub read_root-requires : goal.read_root-requires
 read_root-requires c = at-opening _ _ _ _ _ _ _ _ _ _ _ _ c.requires _ _ (rw c.pairs_at.ensures at c.word_at.ensures) (rw c.pairs_at.ensures at c.word_at-taken.ensures) c.passes.result c.passes.ensures c.if-passes.false c.count.result c.count.ensures c.if-taken-count.false
 
-pub shape_of-work-in-Read : goal.shape_of-work-in-Read
-shape_of-work-in-Read c = search
+pub returns : goal.returns
+returns c = at_finished _ _ _ _ _ _ _ _ _ _ _ _ c.requires _ _ (rw c.pairs_at.ensures at c.word_at.ensures) (rw c.pairs_at.ensures at c.word_at-taken.ensures) c.passes.result c.passes.ensures c.if-passes.false c.count.result c.count.ensures c.if-taken-count.false c.read_root.new.work c.read_root.new.words c.in_ok-more.field-0-0 _ _ c.in_ok-more.ensures
 
-pub shape_of-words-in-Read : goal.shape_of-words-in-Read
-shape_of-words-in-Read c = search
-
-pub returns-in-Read : goal.returns-in-Read
-returns-in-Read c = at_finished _ _ _ _ _ _ _ _ _ _ _ _ c.requires _ _ (rw c.pairs_at.ensures at c.word_at.ensures) (rw c.pairs_at.ensures at c.word_at-taken.ensures) c.passes.result c.passes.ensures c.if-passes.false c.count.result c.count.ensures c.if-taken-count.false c.read_root.new.work c.read_root.new.words c.in-Read.field-0 _ _ c.in-Read.ensures
-
-pub shape_of-work-in-Short : goal.shape_of-work-in-Short
-shape_of-work-in-Short c = search
-
-pub shape_of-words-in-Short : goal.shape_of-words-in-Short
-shape_of-words-in-Short c = search
-
-pub returns-in-Short : goal.returns-in-Short
-returns-in-Short c = at_short _ _ _ _ _ _ _ _ _ _ _ _ c.requires _ _ (rw c.pairs_at.ensures at c.word_at.ensures) (rw c.pairs_at.ensures at c.word_at-taken.ensures) c.passes.result c.passes.ensures c.if-passes.false c.count.result c.count.ensures c.if-taken-count.false c.read_root.new.work c.read_root.new.words c.in-Short.ensures
+pub returns-in_err-more : goal.returns-in_err-more
+returns-in_err-more c = rw c.from_residual.ensures (at_short _ _ _ _ _ _ _ _ _ _ _ _ c.requires _ _ (rw c.pairs_at.ensures at c.word_at.ensures) (rw c.pairs_at.ensures at c.word_at-taken.ensures) c.passes.result c.passes.ensures c.if-passes.false c.count.result c.count.ensures c.if-taken-count.false c.read_root.new.work c.read_root.new.words c.in_err-more.ensures)

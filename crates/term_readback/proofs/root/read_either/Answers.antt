@@ -10,23 +10,11 @@ head-requires c = let K = c.requires in (K.holding.lies.stands.shows.laid, openi
 pub read_variable-requires : goal.read_variable-requires
 read_variable-requires c = let K = c.requires in opening_so _ _ _ _ _ _ _ _ _ _ _ _ _ K _ (head-variable K.graph _ c.head.result (c.head.ensures K.graph K.holding.lies.stands.shows) c.if-head.true)
 
-pub shape_of-work-then-head : goal.shape_of-work-then-head
-shape_of-work-then-head c = search
-
-pub shape_of-words-then-head : goal.shape_of-words-then-head
-shape_of-words-then-head c = search
-
 pub returns-then-head : goal.returns-then-head
 returns-then-head c = let K = c.requires in gives_so _ _ _ _ _ _ _ _ _ _ _ _ _ K (Variable c.args.x.0) (λ h S v. head-variable h _ c.head.result (c.head.ensures h S) c.if-head.true) c.read_variable.new.work c.read_variable.new.words c.read_variable.result c.read_variable.ensures
 
 pub read_applied-requires : goal.read_applied-requires
 read_applied-requires c = let K = c.requires in record { bytes = c.args.pack.now; catalog = c.args.s.catalog; everyone = c.args.s.everyone; opening = opening_so _ _ _ _ _ _ _ _ _ _ _ _ _ K _ (head-other K.graph _ c.head.result (c.head.ensures K.graph K.holding.lies.stands.shows) c.if-head.false) }
-
-pub shape_of-work : goal.shape_of-work
-shape_of-work c = search
-
-pub shape_of-words : goal.shape_of-words
-shape_of-words c = search
 
 pub returns : goal.returns
 returns c = let K = c.requires in gives_so _ _ _ _ _ _ _ _ _ _ _ _ _ K (Applied c.args.x.0) (λ h S v. head-other h _ c.head.result (c.head.ensures h S) c.if-head.false) c.read_applied.new.work c.read_applied.new.words c.read_applied.result (c.read_applied.ensures _ _ _ (opening_so _ _ _ _ _ _ _ _ _ _ _ _ _ K _ (head-other K.graph _ c.head.result (c.head.ensures K.graph K.holding.lies.stands.shows) c.if-head.false)))

@@ -7,26 +7,8 @@ use Rattle.term_readback.proofs.root.read_variable.Goals as goal
 pub numbers-requires : goal.numbers-requires
 numbers-requires c = opening_asking _ _ _ _ _ _ _ _ _ _ _ _ _ c.requires
 
-pub read_number-requires : goal.read_number-requires
-read_number-requires c = let K = c.requires in record { bytes = c.args.pack.now; catalog = c.args.s.catalog; everyone = c.args.s.everyone; opening = opening_so _ _ _ _ _ _ _ _ _ _ _ _ _ K _ (K.asked, sym (c.numbers.ensures K.graph K.holding.lies.stands.shows) ∙ c.if-numbers.true) }
-
-pub shape_of-work-then-numbers : goal.shape_of-work-then-numbers
-shape_of-work-then-numbers c = search
-
-pub shape_of-words-then-numbers : goal.shape_of-words-then-numbers
-shape_of-words-then-numbers c = search
-
 pub returns-then-numbers : goal.returns-then-numbers
 returns-then-numbers c = let K = c.requires in gives_so _ _ _ _ _ _ _ _ _ _ _ _ _ K (Named c.args.s.everyone c.args.x.0) (λ h S v. (v, sym (c.numbers.ensures h S) ∙ c.if-numbers.true)) c.read_number.new.work c.read_number.new.words c.read_number.result (c.read_number.ensures _ _ _ (opening_so _ _ _ _ _ _ _ _ _ _ _ _ _ K _ (K.asked, sym (c.numbers.ensures K.graph K.holding.lies.stands.shows) ∙ c.if-numbers.true)))
-
-pub read_value-requires : goal.read_value-requires
-read_value-requires c = let K = c.requires in record { counts = c.args.s.graph; everyone = c.args.s.everyone; opening = opening_so _ _ _ _ _ _ _ _ _ _ _ _ _ K _ (K.asked, sym (c.numbers.ensures K.graph K.holding.lies.stands.shows) ∙ c.if-numbers.false) }
-
-pub shape_of-work : goal.shape_of-work
-shape_of-work c = search
-
-pub shape_of-words : goal.shape_of-words
-shape_of-words c = search
 
 pub returns : goal.returns
 returns c = let K = c.requires in gives_so _ _ _ _ _ _ _ _ _ _ _ _ _ K (Fixed c.args.s.everyone c.args.x.0) (λ h S v. (v, sym (c.numbers.ensures h S) ∙ c.if-numbers.false)) c.read_value.new.work c.read_value.new.words c.read_value.result (c.read_value.ensures _ _ (opening_so _ _ _ _ _ _ _ _ _ _ _ _ _ K _ (K.asked, sym (c.numbers.ensures K.graph K.holding.lies.stands.shows) ∙ c.if-numbers.false)))

@@ -8,8 +8,5 @@ argument-y-requires c = let p = c.requires in (p.asking.graphed.shows.laid, p.as
 pub find-requires : goal.find-requires
 find-requires c = let p = c.requires in ((p.asking.graph, p.asking.graphed.shows), argument_node _ _ _ _ _ _ p _ c.argument-y.ensures)
 
-pub shape_of-work : goal.shape_of-work
-shape_of-work c = search
-
 pub returns : goal.returns
 returns c = let p = c.requires in rooted _ _ _ _ _ _ p _ c.argument-y.ensures c.find.result.0 c.find.new.table c.find.ensures

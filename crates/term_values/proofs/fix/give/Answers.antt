@@ -1,16 +1,9 @@
 -- `give` meets its contract.
-use Rattle.pack_read.specs.Held.{readable}
 use Rattle.term_values.specs.Gives.{fresh_inside, fresh_small, gives_variable, gives_unlike, gives_longer, gives_pushable, gives_arguments}
 use Rattle.term_values.proofs.fix.give.Goals as goal
 
-pub head-head-requires : goal.head-head-requires
-head-head-requires c = let Q = c.requires in (Q.values.stands.shows.laid, Q.node)
-
 pub put_value-requires : goal.put_value-requires
 put_value-requires c = let Q = c.requires in (Q.values.placed, fresh_inside _ _ _ _ _ _ _ _ _ Q, fresh_small _ _ _ _ _ _ _ _ _ Q)
-
-pub shape_of-work-then-head : goal.shape_of-work-then-head
-shape_of-work-then-head c = search
 
 pub returns-then-head : goal.returns-then-head
 returns-then-head c =
@@ -18,27 +11,12 @@ returns-then-head c =
     let h = c.head-head in
     gives_variable _ _ _ _ _ _ _ _ _ Q _ c.put_value.ensures h.result h.ensures c.if-head.true
 
-pub node_head-requires : goal.node_head-requires
-node_head-requires c = let Q = c.requires in (readable _ _ _ Q.values.held, Q.closed)
-
-pub shape_of-work-then-node_head-head : goal.shape_of-work-then-node_head-head
-shape_of-work-then-node_head-head c = search
-
 pub returns-then-node_head-head : goal.returns-then-node_head-head
 returns-then-node_head-head c =
     let Q = c.requires in
     let h = c.head-head in
     let d = c.node_head in
     gives_unlike _ _ _ _ _ _ _ _ _ Q h.result h.ensures c.if-head.false d.result d.ensures c.if-node_head-head.true
-
-pub arity-k-requires : goal.arity-k-requires
-arity-k-requires c = let Q = c.requires in (Q.values.stands.shows.laid, Q.node)
-
-pub node_arity-requires : goal.node_arity-requires
-node_arity-requires c = let Q = c.requires in (readable _ _ _ Q.values.held, Q.closed)
-
-pub shape_of-work-then-node_arity-k : goal.shape_of-work-then-node_arity-k
-shape_of-work-then-node_arity-k c = search
 
 pub returns-then-node_arity-k : goal.returns-then-node_arity-k
 returns-then-node_arity-k c =
@@ -60,9 +38,6 @@ push_arguments-requires c =
     let k = c.arity-k in
     let m = c.node_arity in
     gives_pushable _ _ _ _ _ _ _ _ _ Q h.result h.ensures c.if-head.false d.result d.ensures c.if-node_head-head.false k.result k.ensures m.result m.ensures c.if-node_arity-k.false _ c.put_value-2.ensures
-
-pub shape_of-work : goal.shape_of-work
-shape_of-work c = search
 
 pub returns : goal.returns
 returns c =

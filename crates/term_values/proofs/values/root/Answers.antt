@@ -2,8 +2,5 @@
 use Rattle.term_values.specs.Stores.{finds_root}
 use Rattle.term_values.proofs.values.root.Goals as goal
 
-pub shape_of-work : goal.shape_of-work
-shape_of-work c = search
-
 pub returns : goal.returns
 returns c = finds_root _ _ _ c.requires.0 _ _ _ _ c.find.ensures

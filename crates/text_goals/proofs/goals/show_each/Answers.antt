@@ -1,7 +1,8 @@
 -- `show_each` meets its contract: with each turn the goals left give the same answer, and the text of those ahead stands there.
 use mathlib.Core.Path.{refl, ◌∙◌}
 use native.Mathlib.Omega.{arith}
-use Rattle.text_goals.specs.EachShown.{going_none, going_showable, going_recorded, going_all, going_on, going_unmet, going_other}
+use Rattle.std.proofs.lemmas.Result.{err_from_is_err_and}
+use Rattle.text_goals.specs.EachShown.{going_none, going_showable, going_recorded, going_all, going_on, going_refused}
 use Rattle.text_goals.proofs.goals.show_each.Goals as goal
 
 pub count-goals-requires : goal.count-goals-requires
@@ -17,36 +18,17 @@ show_goal-requires c =
     let a = c.args in
     (going_showable _ _ _ _ a.text.now _ _ a.b _ _ M _ _ _ _ _ _ G, going_recorded _ _ _ _ a.text.now _ _ a.b _ _ M _ _ _ _ _ _ G (omega (arith, c.loop-g-test.true, c.count-goals.ensures)))
 
-pub shape_of-work-in-Unmet : goal.shape_of-work-in-Unmet
-shape_of-work-in-Unmet c = c.show_goal.auto.work ∙ c.loop-g.invariant.2.upto.long
-
-pub shape_of-text-in-Unmet : goal.shape_of-text-in-Unmet
-shape_of-text-in-Unmet c = c.show_goal.auto.text ∙ c.loop-g.invariant.1
-
-pub returns-in-Unmet : goal.returns-in-Unmet
-returns-in-Unmet c = going_unmet _ _ _ _ _ _ _ _ _ _ c.requires _ _ _ _ _ _ c.loop-g.invariant.2 (omega (arith, c.loop-g-test.true, c.count-goals.ensures)) c.show_goal.new.work c.show_goal.new.text c.in-Unmet.ensures
-
-pub shape_of-work-in-Other : goal.shape_of-work-in-Other
-shape_of-work-in-Other c = c.show_goal.auto.work ∙ c.loop-g.invariant.2.upto.long
-
-pub shape_of-text-in-Other : goal.shape_of-text-in-Other
-shape_of-text-in-Other c = c.show_goal.auto.text ∙ c.loop-g.invariant.1
-
-pub returns-in-Other : goal.returns-in-Other
-returns-in-Other c = going_other _ _ _ _ _ _ _ _ _ _ c.requires _ _ _ _ _ _ c.loop-g.invariant.2 (omega (arith, c.loop-g-test.true, c.count-goals.ensures)) c.show_goal.new.work c.show_goal.new.text _ c.in-Other.ensures
+pub returns-in_err-seen : goal.returns-in_err-seen
+returns-in_err-seen c =
+    let e = err_from_is_err_and c.from_residual.result c.from_residual.ensures.1 in
+    rw (e.1, e.2) (going_refused _ _ _ _ _ _ _ _ _ _ c.requires _ _ _ _ _ _ c.loop-g.invariant.2 (omega (arith, c.loop-g-test.true, c.count-goals.ensures)) c.show_goal.new.work c.show_goal.new.text _ c.in_err-seen.ensures)
 
 pub loop-g-preserved : goal.loop-g-preserved
 loop-g-preserved c = (
   omega (arith, c.loop-g-test.true),
   c.show_goal.auto.text ∙ c.loop-g.invariant.1,
-  going_on _ _ _ _ _ _ _ _ _ _ c.requires _ _ _ _ _ _ c.loop-g.invariant.2 (omega (arith, c.loop-g-test.true, c.count-goals.ensures)) _ _ _ _ _ c.in-On.ensures,
+  going_on _ _ _ _ _ _ _ _ _ _ c.requires _ _ _ _ _ _ c.loop-g.invariant.2 (omega (arith, c.loop-g-test.true, c.count-goals.ensures)) _ _ _ _ _ c.in_ok-seen.ensures,
 )
-
-pub shape_of-work : goal.shape_of-work
-shape_of-work c = c.loop-g.invariant.2.upto.long
-
-pub shape_of-text : goal.shape_of-text
-shape_of-text c = c.loop-g.invariant.1
 
 pub returns : goal.returns
 returns c = going_all _ _ _ _ _ _ _ _ _ _ c.requires _ _ _ _ _ _ c.loop-g.invariant.2 (omega (arith, c.loop-g-test.false, c.count-goals.ensures))

@@ -1,5 +1,4 @@
 -- `show_goals` meets its contract.
-use mathlib.Core.Path.{◌∙◌}
 use Rattle.class_build.specs.Tests.{made-seen, made-values}
 use Rattle.text_goals.specs.AllShown.{starts_showable, starts_shows}
 use Rattle.text_goals.proofs.goals.show_goals.Goals as goal
@@ -12,9 +11,6 @@ begin-values-requires c = made-values _ _ _ _ _ _ _ _ _ c.requires.made _ _ c.be
 
 pub show_each-requires : goal.show_each-requires
 show_each-requires c = let a = c.args in starts_showable _ _ _ _ a.s a.t c.requires _ _ c.begin-seen.ensures _ _ c.begin-values.ensures
-
-pub shape_of-work : goal.shape_of-work
-shape_of-work c = c.show_each.auto.work ∙ c.begin-values.auto.work ∙ c.begin-seen.auto.work
 
 pub returns : goal.returns
 returns c = let a = c.args in starts_shows _ _ _ _ a.s a.t c.requires _ _ c.begin-seen.ensures _ _ c.begin-values.ensures _ _ _ a.b c.show_each.result c.show_each.ensures

@@ -1,6 +1,6 @@
 -- `show` meets its contract.
-use mathlib.Core.Path.{◌∙◌}
 use native.Mathlib.Omega.{arith}
+use Rattle.std.proofs.lemmas.Result.{err_from_is_err_and}
 use Rattle.text_goals.specs.Shows.{shows_unbuilt, shows_ended}
 use Rattle.text_goals.proofs.show.show.Goals as goal
 
@@ -11,44 +11,18 @@ pub finish-requires : goal.finish-requires
 finish-requires c =
     let p = c.requires in
     let m = c.build_classes in
-    ((rw c.in-Made.is at m.ensures).2, omega (arith, p.1, m.auto.class), p.3)
+    (c.in_ok-s.ensures.2, omega (arith, p.1, m.auto.class), p.3)
 
-pub shape_of-work-in-Made : goal.shape_of-work-in-Made
-shape_of-work-in-Made c = c.finish.auto.work ∙ c.build_classes.auto.work
-
-pub shape_of-class-in-Made : goal.shape_of-class-in-Made
-shape_of-class-in-Made c = search
-
-pub shape_of-words-in-Made : goal.shape_of-words-in-Made
-shape_of-words-in-Made c = search
-
-pub shape_of-cells-in-Made : goal.shape_of-cells-in-Made
-shape_of-cells-in-Made c = search
-
-pub shape_of-text : goal.shape_of-text
-shape_of-text c = search
-
-pub returns-in-Made : goal.returns-in-Made
-returns-in-Made c =
+pub returns : goal.returns
+returns c =
     let a = c.args in
     let m = c.build_classes in
     let f = c.finish in
-    shows_ended _ _ _ _ _ a.text.now _ a.b _ _ _ _ _ _ _ _ (rw c.in-Made.is at m.ensures) f.result f.ensures f.auto.text
+    shows_ended _ _ _ _ _ a.text.now _ a.b _ _ _ _ _ _ _ _ c.in_ok-s.ensures f.result f.ensures f.auto.text
 
-pub shape_of-work-in-Refused : goal.shape_of-work-in-Refused
-shape_of-work-in-Refused c = search
-
-pub shape_of-class-in-Refused : goal.shape_of-class-in-Refused
-shape_of-class-in-Refused c = search
-
-pub shape_of-words-in-Refused : goal.shape_of-words-in-Refused
-shape_of-words-in-Refused c = search
-
-pub shape_of-cells-in-Refused : goal.shape_of-cells-in-Refused
-shape_of-cells-in-Refused c = search
-
-pub returns-in-Refused : goal.returns-in-Refused
-returns-in-Refused c =
+pub returns-in_err-s : goal.returns-in_err-s
+returns-in_err-s c =
     let a = c.args in
     let m = c.build_classes in
-    shows_unbuilt _ _ _ _ _ a.text.now _ a.b m.new.work m.new.class m.new.words m.new.cells a.text.now _ (rw c.in-Refused.is at m.ensures)
+    let e = err_from_is_err_and c.from_residual.result c.from_residual.ensures.1 in
+    rw (e.1, e.2) (shows_unbuilt _ _ _ _ _ a.text.now _ a.b m.new.work m.new.class m.new.words m.new.cells a.text.now _ c.in_err-s.ensures)

@@ -8,10 +8,10 @@ pub get-requires : goal.get-requires
 get-requires c = let p = c.requires in variable-kept _ _ _ _ _ _ p.0 p.1
 
 pub write_line-requires : goal.write_line-requires
-write_line-requires c = let p = c.requires in variable-kinds _ _ _ _ _ _ p.0 p.1 _ (sym (ap known c.in-Value.is) ∙ c.get.ensures)
+write_line-requires c = let p = c.requires in variable-kinds _ _ _ _ _ _ p.0 p.1 _ (sym (ap known c.in-Some.is) ∙ c.get.ensures)
 
-pub returns-in-Value : goal.returns-in-Value
-returns-in-Value c = let p = c.requires in variable_some _ _ _ _ _ _ p.0 p.1 _ (sym (ap known c.in-Value.is) ∙ c.get.ensures) _ _ _ _ _ c.write_line.ensures
+pub returns-in-Some : goal.returns-in-Some
+returns-in-Some c = let p = c.requires in variable_some _ _ _ _ _ _ p.0 p.1 _ (sym (ap known c.in-Some.is) ∙ c.get.ensures) _ _ _ _ _ c.write_line.ensures
 
-pub returns-in-Nothing : goal.returns-in-Nothing
-returns-in-Nothing c = let p = c.requires in variable-none _ _ _ _ _ _ p.0 p.1 (sym (ap known c.in-Nothing.is) ∙ c.get.ensures) _ _
+pub returns-in-None : goal.returns-in-None
+returns-in-None c = let p = c.requires in variable-none _ _ _ _ _ _ p.0 p.1 (sym (ap known c.in-None.is) ∙ c.get.ensures) _ _

@@ -22,12 +22,6 @@ loop-k-preserved c =
     let K = c.loop-k.invariant in
     (omega (arith, c.loop-k-test.true), c.write_variable-end.auto.text ∙ K.1, lining_on _ _ _ _ _ _ _ c.requires _ _ _ _ K.2 _ _ _ c.write_variable-end.ensures)
 
-pub shape_of-work : goal.shape_of-work
-shape_of-work c = c.loop-k.invariant.2.upto.long
-
-pub shape_of-text : goal.shape_of-text
-shape_of-text c = c.loop-k.invariant.1
-
 pub returns : goal.returns
 returns c =
     let p = c.requires in

@@ -7,14 +7,8 @@ use Rattle.text_write.proofs.term.finish.Goals as goal
 pub loop-p-init : goal.loop-p-init
 loop-p-init c = let a = c.args in (refl, runs_none _ _ _ _ _ _ a.start c.requires)
 
-pub shape_of-work-then-text-p : goal.shape_of-work-then-text-p
-shape_of-work-then-text-p c = c.loop-p.invariant.1.upto.long
-
-pub shape_of-text-then-text-p : goal.shape_of-text-then-text-p
-shape_of-text-then-text-p c = c.loop-p.invariant.0
-
 pub returns-then-text-p : goal.returns-then-text-p
-returns-then-text-p c = let a = c.args in runs_full _ _ _ _ _ _ a.start c.requires _ _ c.loop-p.p c.loop-p.invariant.1 c.loop-p-test.true c.if-text-p.true (omega (arith, c.struct_known-in-loop-p-1.given))
+returns-then-text-p c = let a = c.args in runs_full _ _ _ _ _ _ a.start c.requires _ _ c.loop-p.p c.loop-p.invariant.1 c.loop-p-test.true c.if-text-p.true (omega arith)
 
 pub turn-p-requires : goal.turn-p-requires
 turn-p-requires c = let a = c.args in runs_turning _ _ _ a.text.now _ _ a.start c.requires _ _ c.loop-p.p c.loop-p.invariant.1 c.loop-p-test.true
@@ -24,12 +18,6 @@ loop-p-smaller c = omega (arith, c.if-text-p.false, c.turn-p.ensures.on (omega (
 
 pub loop-p-preserved : goal.loop-p-preserved
 loop-p-preserved c = let a = c.args in (c.turn-p.auto.text ∙ c.loop-p.invariant.0, runs_on _ _ _ _ _ _ a.start c.requires _ _ c.loop-p.p c.loop-p.invariant.1 _ _ _ c.turn-p.ensures)
-
-pub shape_of-work : goal.shape_of-work
-shape_of-work c = c.loop-p.invariant.1.upto.long
-
-pub shape_of-text : goal.shape_of-text
-shape_of-text c = c.loop-p.invariant.0
 
 pub returns : goal.returns
 returns c = let a = c.args in runs_end _ _ _ _ _ _ a.start c.requires _ _ c.loop-p.p c.loop-p.invariant.1 (omega (arith, c.loop-p-test.false))

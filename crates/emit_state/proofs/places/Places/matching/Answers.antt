@@ -2,4 +2,4 @@
 use Rattle.emit_state.proofs.places.Places.matching.Goals as goal
 
 pub returns : goal.returns
-returns c = rw (c.index_end-end.ensures, c.values-values.ensures, c.pending-stack.ensures)
+returns c = rw (c.index_end.ensures, c.values.ensures, c.pending.ensures)

@@ -2,8 +2,5 @@
 use Rattle.graph.specs.Joins.{bound_by}
 use Rattle.graph.proofs.graph.Graph.bind.Goals as goal
 
-pub join-requires : goal.join-requires
-join-requires c = (c.share_flex.ensures.0, c.share_flex.ensures.1)
-
 pub returns : goal.returns
 returns c = bound_by _ _ _ _ _ _ _ c.share_flex.ensures c.join.ensures

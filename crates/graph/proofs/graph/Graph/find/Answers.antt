@@ -1,17 +1,11 @@
 -- `Graph::find` meets its contract: with each turn the walk that is left is shorter, and no root has changed.
-use mathlib.Core.Path.{◌≡◌, refl, sym, ◌∙◌}
+use mathlib.Core.Path.{◌≡◌, sym, ◌∙◌}
 use Prim.Native.Nat.{suc, ◌+◌, ◌*◌, ◌-◌}
 use native.Mathlib.Omega.{arith}
 use lib.ListN.{length-set}
 use Rattle.graph.specs.Cells.{link_word}
-use Rattle.graph.specs.Links.{seeking_first, row_there, found_at, next_there, found_next, seeking_on, seeking_less}
+use Rattle.graph.specs.Links.{found_at, next_there, found_next, seeking_on, seeking_less}
 use Rattle.graph.proofs.graph.Graph.find.Goals as goal
-
-pub loop-self-init : goal.loop-self-init
-loop-self-init c = (refl, seeking_first _ _ _ _ c.requires.1)
-
-pub link-up-requires : goal.link-up-requires
-link-up-requires c = let K = c.loop-self.invariant.1 in let H = c.requires.0 in ((K.same H.0 H.1).0.laid, K.there)
 
 pub returns-then-up-eq0 : goal.returns-then-up-eq0
 returns-then-up-eq0 c = found_at _ _ _ _ _ _ c.loop-self.invariant.1 c.requires.0 (sym c.link-up.ensures ∙ c.if-up-eq0.true)
@@ -29,18 +23,6 @@ returns-then-upper-eq0 c =
     let u = c.link-up.result in
     let e : link_word c.loop-self.table c.loop-self.at ≡ suc (u - 1) = omega (arith, c.link-up.ensures, c.if-up-eq0.false) in
     found_next _ _ _ _ _ _ c.loop-self.invariant.1 c.requires.0 (u - 1) e (sym c.link-upper.ensures ∙ c.if-upper-eq0.true)
-
-pub overflow_mul-table : goal.overflow_mul-table
-overflow_mul-table c = let r = row_there _ _ _ _ _ _ c.loop-self.invariant.1 c.requires.0 in omega arith
-
-pub overflow_add-table : goal.overflow_add-table
-overflow_add-table c = let r = row_there _ _ _ _ _ _ c.loop-self.invariant.1 c.requires.0 in omega arith
-
-pub offset_bounds-table-at : goal.offset_bounds-table-at
-offset_bounds-table-at c = let r = row_there _ _ _ _ _ _ c.loop-self.invariant.1 c.requires.0 in omega arith
-
-pub bounds-table-at : goal.bounds-table-at
-bounds-table-at c = let r = row_there _ _ _ _ _ _ c.loop-self.invariant.1 c.requires.0 in omega arith
 
 pub loop-self-smaller : goal.loop-self-smaller
 loop-self-smaller c =

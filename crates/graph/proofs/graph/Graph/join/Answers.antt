@@ -7,15 +7,6 @@ use Rattle.graph.proofs.graph.Graph.join.Goals as goal
 pub overflow_add-table : goal.overflow_add-table
 overflow_add-table c = let n = nodes_few _ _ _ c.requires.0 in omega (arith, c.requires.0.fits, c.requires.0.small, c.requires.1.right)
 
-pub overflow_mul-table : goal.overflow_mul-table
-overflow_mul-table c = omega (arith, room _ _ _ c.requires.0, c.requires.1.left)
-
-pub overflow_add-table-2 : goal.overflow_add-table-2
-overflow_add-table-2 c = omega (arith, room _ _ _ c.requires.0, c.requires.1.left)
-
-pub offset_bounds-table-i : goal.offset_bounds-table-i
-offset_bounds-table-i c = omega (arith, room _ _ _ c.requires.0, c.requires.1.left)
-
 pub bounds-table-i : goal.bounds-table-i
 bounds-table-i c = omega (arith, room _ _ _ c.requires.0, c.requires.1.left)
 

@@ -6,7 +6,7 @@ use native.Mathlib.Omega.{arith}
 use lib.ListN.{length}
 use Rattle.base.specs.Part.{part}
 use Rattle.definition.specs.Graph.{applied}
-use Rattle.graph.specs.Pushes.{no_room, filled_long, filled_laid, filled-pushed}
+use Rattle.graph.specs.Pushes.{no_room, filled-pushed}
 use Rattle.graph.proofs.graph.Graph.push.Goals as goal
 
 pub returns-then-lacks_room : goal.returns-then-lacks_room
@@ -15,25 +15,11 @@ returns-then-lacks_room c =
     let h = leb-true (length a.cells.now - a.self.used) (length a.args.now) (sym c.lacks_room.ensures ∙ c.if-lacks_room.true) in
     no_room a.cells.now a.cells.now a.table.now a.table.now a.self (applied a.head a.args.now) (omega (arith, h, c.requires.fits))
 
-pub slice_bounds-copy_words-end : goal.slice_bounds-copy_words-end
-slice_bounds-copy_words-end c =
-    let a = c.args in
-    let h = leb-false (length a.cells.now - a.self.used) (length a.args.now) (sym c.lacks_room.ensures ∙ c.if-lacks_room.false) in
-    omega (arith, h)
-
-pub push_laid-requires : goal.push_laid-requires
-unfolding part
-push_laid-requires c =
-    let a = c.args in
-    let h = leb-false (length a.cells.now - a.self.used) (length a.args.now) (sym c.lacks_room.ensures ∙ c.if-lacks_room.false) in
-    let v = c.copy_words in
-    (filled_laid a.cells.now _ v.new.to a.self _ c.requires (omega arith) (omega (arith, h)) v.auto.to, omega arith, omega (arith, h, filled_long a.cells.now _ v.new.to a.self _ c.requires (omega arith) (omega (arith, h)) v.auto.to))
-
 pub returns : goal.returns
 unfolding part
 returns c =
     let a = c.args in
     let h = leb-false (length a.cells.now - a.self.used) (length a.args.now) (sym c.lacks_room.ensures ∙ c.if-lacks_room.false) in
-    let v = c.copy_words in
+    let v = c.copy_from_slice in
     let u = c.push_laid in
-    filled-pushed a.cells.now a.table.now v.new.to a.self _ c.requires (omega arith) (omega (arith, h)) v.auto.to u.new.cells u.new.table a.args.now a.head v.ensures u.result u.ensures
+    filled-pushed a.cells.now a.table.now v.new.self a.self _ c.requires (omega arith) (omega (arith, h)) v.auto.self u.new.cells u.new.table a.args.now a.head v.ensures.after u.result u.ensures

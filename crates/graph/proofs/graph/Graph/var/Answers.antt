@@ -1,10 +1,9 @@
 -- `Graph::var` meets its contract.
-use mathlib.Core.Path.{refl}
 use native.Mathlib.Omega.{arith}
 use lib.ListN.{length-set}
 use Rattle.definition.specs.Graph.{variable_vertex}
 use Rattle.graph.specs.Cells.{mark_in, nodes_few}
-use Rattle.graph.specs.Pushes.{no_room, var_pushed}
+use Rattle.graph.specs.Pushes.{no_room, pushed_next, var_pushed}
 use Rattle.graph.proofs.graph.Graph.var.Goals as goal
 
 pub returns-then-cells-at : goal.returns-then-cells-at
@@ -14,13 +13,7 @@ pub put_row-requires : goal.put_row-requires
 put_row-requires c =
     let L = c.requires in
     let n = nodes_few _ _ _ L in
-    (simp length-set (omega (arith, c.if-cells-at.false)), simp length-set (omega (arith, L.wide)), omega (arith, L.small, c.if-cells-at.false))
-
-pub overflow_cast-result : goal.overflow_cast-result
-overflow_cast-result c = let n = nodes_few _ _ _ c.requires in omega (arith, c.requires.fits, c.requires.small)
-
-pub overflow_add-result : goal.overflow_add-result
-overflow_add-result c = let n = nodes_few _ _ _ c.requires in omega (arith, c.requires.fits, c.requires.small)
+    (simp length-set (omega (arith, c.if-cells-at.false)), simp length-set (omega (arith, L.wide)), omega (arith, L.fits, L.small), omega (arith, L.small, c.if-cells-at.false))
 
 pub returns : goal.returns
-returns c = var_pushed _ _ _ _ _ refl c.requires (omega (arith, c.if-cells-at.false)) _ _ _ c.put_row.ensures
+returns c = let R = c.put_row.ensures in pushed_next _ _ _ _ _ _ _ _ R.1 (λ n e. var_pushed _ _ _ _ n e c.requires (omega (arith, c.if-cells-at.false)) _ _ _ R.0)

@@ -5,4 +5,4 @@ use Rattle.memo.specs.Recall.{begun-new}
 use Rattle.memo.proofs.memo.Memo.new.Goals as goal
 
 pub returns : goal.returns
-returns c = begun-new _ (length c.args.table.now) _ c.zero_words.ensures refl
+returns c = begun-new _ (length c.args.table.now) _ (c.fill.ensures.after (λ y e. e)) refl

@@ -13,7 +13,7 @@ pub bounds-work-a : goal.bounds-work-a
 bounds-work-a c = omega (arith, region_inside c.args.self c.args.kind c.requires.1, c.requires.0.fits, c.start-a.ensures)
 
 pub overflow_cast-result : goal.overflow_cast-result
-overflow_cast-result c = omega (arith, c.shared_slice_known-2-1.given c.start-a.result)
+overflow_cast-result c = omega (arith, c.type_inv.work c.start-a.result)
 
 pub returns : goal.returns
 returns c =

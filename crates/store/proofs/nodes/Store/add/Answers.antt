@@ -6,12 +6,6 @@ use Rattle.store.specs.Stored.{Added}
 use Rattle.store.specs.declared.nodes.Store.{Store}
 use Rattle.store.proofs.nodes.Store.add.Goals as goal
 
-pub append-st-requires : goal.append-st-requires
-append-st-requires c = let A = c.requires in record { placed = A.stored.placed; some = A.some; fits = A.fits }
-
-pub overflow_mul-n : goal.overflow_mul-n
-overflow_mul-n c = let A = c.requires in omega (arith, more_len _ _ _ _ _ A _ _ _ c.append-st.ensures, room-left _ _ _ _ _ A, A.stored.placed.enough.small)
-
 pub overflow_add-index : goal.overflow_add-index
 overflow_add-index c = let A = c.requires in omega (arith, slot_inside _ _ _ _ _ A, slots_fit _ _ _ _ _ A.stored)
 
@@ -28,7 +22,7 @@ pub rebuild-requires : goal.rebuild-requires
 rebuild-requires c =
     let A = c.requires in
     let D = c.append-st.ensures in
-    let m = c.least-wide.ensures in
+    let m = c.min-wide.ensures in
     widens _ _ _ _ _ A _ _ _ _ D (omega (arith, m, more_len _ _ _ _ _ A _ _ _ D, room-left _ _ _ _ _ A, half_full _ _ _ _ _ A)) (omega (arith, m))
 
 pub returns : goal.returns

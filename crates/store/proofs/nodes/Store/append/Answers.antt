@@ -1,12 +1,11 @@
 -- `Store::append` meets its contract.
-use mathlib.Core.Path.{refl, ap, ◌∙◌}
-use mathlib.Core.List.{[], ◌∷◌, ◌++◌}
+use mathlib.Core.Path.{refl, ◌∙◌}
 use Prim.Native.Nat.{◌+◌, ◌-◌}
 use native.Mathlib.Omega.{arith}
 use lib.ListN.{length, set}
 use Rattle.base.specs.Part.{put-lent}
-use Rattle.store.specs.Words.{node_with, words-most}
-use Rattle.store.specs.Table.{append-words, length-written, length-key}
+use Rattle.store.specs.Words.{words-most}
+use Rattle.store.specs.Table.{append-words}
 use Rattle.store.specs.Stored.{nodes}
 use Rattle.store.proofs.nodes.Store.append.Goals as goal
 
@@ -21,16 +20,6 @@ bounds-index-n c =
 pub overflow_add-result : goal.overflow_add-result
 overflow_add-result c = let F = c.requires in omega (arith, F.fits, F.placed.used, F.placed.len, F.placed.enough.small, words-most (nodes c.args.words.now c.args.self))
 
-pub shape_of-words : goal.shape_of-words
-shape_of-words c =
-    let a = c.args in
-    let F = c.requires in
-    let u = a.self.used in
-    let k = length a.key.now in
-    let s = nodes a.words.now a.self in
-    let e = put-lent (u + 1) (u + 1 + k) k (set a.words.now u (k - 1)) _ a.key.now refl c.copy_words.ensures ∙ append-words s a.words.now a.key.now u F.placed.begins F.placed.used F.some F.fits in
-    ap length e ∙ length-written (s ++ (node_with a.key.now ∷ [])) a.words.now (omega (arith, length-key s a.key.now F.some, F.fits, F.placed.used))
-
 pub returns : goal.returns
 returns c =
     let a = c.args in
@@ -40,6 +29,6 @@ returns c =
     record {
       state = refl;
       index_is = refl;
-      words_are = put-lent (u + 1) (u + 1 + k) k (set a.words.now u (k - 1)) _ a.key.now refl c.copy_words.ensures
+      words_are = put-lent (u + 1) (u + 1 + k) k (set a.words.now u (k - 1)) _ a.key.now refl c.copy_from_slice.ensures.after
           ∙ append-words (nodes a.words.now a.self) a.words.now a.key.now u F.placed.begins F.placed.used F.some F.fits;
     }

@@ -2,8 +2,8 @@
 use mathlib.Core.Path.{◌≡◌, refl, sym, ap, ◌∙◌, subst}
 use mathlib.Core.List.{List}
 use Prim.Native.Nat.{ℕ, ◌+◌, ◌<◌}
-use native.Mathlib.Omega.{arith}
 use lib.ListN.{length, get_or}
+use Rattle.base.specs.Hash.{plain_hash}
 use Rattle.base.specs.Part.{part, part-lent}
 use Rattle.base.specs.Probe.{Ran, taken}
 use Rattle.base.specs.Hash.{hash_of}
@@ -11,20 +11,14 @@ use Rattle.store.specs.Stored.{nodes, slots_in, slots_for, room_in}
 use Rattle.store.specs.Table.{entered, searches}
 use Rattle.store.proofs.nodes.Store.enter.Goals as goal
 
-pub key_at-key-requires : goal.key_at-key-requires
-key_at-key-requires c = (c.requires.0.placed, c.requires.1)
-
-pub hash_words-h-requires : goal.hash_words-h-requires
-hash_words-h-requires c = let E = c.requires.0 in (E.ranged.some, omega (arith, E.ranged.most, E.placed.enough.small))
-
 pub free_slot-s-requires : goal.free_slot-s-requires
 unfolding slots_in
 free_slot-s-requires c =
     let a = c.args in
     let room : ℕ = room_in a.words.now in
     let k : ℕ = slots_for a.self.hashes in
-    subst (λ (l : List ℕ). c.hash_words-h.result + taken l < length l) (sym (part-lent room (room + k) k a.index.now refl))
-    (searches a.index.now a.words.now a.self _ _ c.requires.0 c.hash_words-h.result c.hash_words-h.ensures.1)
+    subst (λ (l : List ℕ). c.hash-h.result + taken l < length l) (sym (part-lent room (room + k) k a.index.now refl))
+    (searches a.index.now a.words.now a.self _ _ c.requires.0 c.hash-h.result c.hash-h.ensures.1)
 
 pub returns : goal.returns
 unfolding slots_in
@@ -34,7 +28,7 @@ returns c =
     let room : ℕ = room_in a.words.now in
     let k : ℕ = slots_for a.self.hashes in
     let e = part-lent room (room + k) k a.index.now refl in
-    let h = c.hash_words-h.ensures.0 ∙ ap (hash_of a.self.hashes) c.key_at-key.ensures in
-    let R = subst (λ (l : List ℕ). Ran l c.hash_words-h.result c.free_slot-s.result × (get_or l c.free_slot-s.result 0 ≡ 0)) e c.free_slot-s.ensures in
+    let h = (c.hash-h.ensures.0 ∙ plain_hash _ _) ∙ ap (hash_of a.self.hashes) c.key_at-key.ensures in
+    let R = subst (λ (l : List ℕ). Ran l c.hash-h.result c.free_slot-s.result × (get_or l c.free_slot-s.result 0 ≡ 0)) e c.free_slot-s.ensures in
     entered a.index.now a.words.now a.self (nodes a.words.now a.self) a.i c.free_slot-s.result E c.requires.1
     (subst (λ (x : ℕ). Ran (part room k a.index.now) x c.free_slot-s.result) h R.0) R.1

@@ -13,32 +13,8 @@ offset_bounds-index-i c = let L = located _ _ _ _ c.requires.0 c.args.i c.requir
 pub bounds-index-i : goal.bounds-index-i
 bounds-index-i c = (located _ _ _ _ c.requires.0 c.args.i c.requires.1).inside
 
-pub overflow_cast-at : goal.overflow_cast-at
-overflow_cast-at c = omega (arith, c.shared_slice_known-1.given c.args.i)
-
-pub overflow_add-end : goal.overflow_add-end
-overflow_add-end c = omega (arith, c.shared_slice_known-1.given c.args.i)
-
-pub offset_bounds-words-at : goal.offset_bounds-words-at
-offset_bounds-words-at c = omega (arith, c.shared_slice_known-1.given c.args.i)
-
 pub bounds-words-at : goal.bounds-words-at
 bounds-words-at c = let L = located _ _ _ _ c.requires.0 c.args.i c.requires.1 in omega (arith, L.ends)
-
-pub overflow_cast-end : goal.overflow_cast-end
-overflow_cast-end c = let a = c.args in omega (arith, c.shared_slice_known-2-1.given (get_or a.index.now a.i 0))
-
-pub overflow_add-end-2 : goal.overflow_add-end-2
-overflow_add-end-2 c = let L = located _ _ _ _ c.requires.0 c.args.i c.requires.1 in omega (arith, L.ends)
-
-pub overflow_add-result : goal.overflow_add-result
-overflow_add-result c = let L = located _ _ _ _ c.requires.0 c.args.i c.requires.1 in omega (arith, L.ends)
-
-pub offset_bounds-words-at-2 : goal.offset_bounds-words-at-2
-offset_bounds-words-at-2 c = let L = located _ _ _ _ c.requires.0 c.args.i c.requires.1 in omega (arith, L.ends)
-
-pub slice_bounds-result-start : goal.slice_bounds-result-start
-slice_bounds-result-start c = omega arith
 
 pub slice_bounds-result-end : goal.slice_bounds-result-end
 slice_bounds-result-end c = let L = located _ _ _ _ c.requires.0 c.args.i c.requires.1 in omega (arith, L.ends)

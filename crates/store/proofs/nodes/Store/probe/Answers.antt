@@ -5,7 +5,7 @@ use lib.ListN.{get_or}
 use Rattle.base.specs.Probe.{passed_none, passed_more}
 use Rattle.store.specs.Words.{node_with}
 use Rattle.store.specs.Stored.{nodes, node_at}
-use Rattle.store.specs.Table.{search_ends, search_id, unlike, alike}
+use Rattle.store.specs.Table.{search_ends, unlike, alike}
 use Rattle.store.proofs.nodes.Store.probe.Goals as goal
 
 pub loop-self-init : goal.loop-self-init
@@ -15,12 +15,6 @@ loop-self-init c =
     let P = passed_none a.slots.now (node_at (nodes a.words.now a.self)) (node_with a.key.now) a.h (search_ends _ _ _ _ _ _ S) in
     (P, P.ran.inside)
 
-pub overflow_cast-id : goal.overflow_cast-id
-overflow_cast-id c = omega (arith, c.shared_slice_known-in-loop-self-1.given c.loop-self.s)
-
-pub has-requires : goal.has-requires
-has-requires c = (c.requires.stored.placed, omega (arith, search_id _ _ _ _ _ _ c.requires c.loop-self.s c.loop-self.invariant.1))
-
 pub loop-self-preserved : goal.loop-self-preserved
 loop-self-preserved c =
     let a = c.args in
@@ -29,9 +23,6 @@ loop-self-preserved c =
     let P = passed_more a.slots.now (node_at (nodes a.words.now a.self)) (node_with a.key.now) a.h (search_ends _ _ _ _ _ _ S) g.s g.invariant.0 (omega arith)
     (unlike _ _ _ _ _ _ S (node_at (nodes a.words.now a.self) (get_or a.slots.now g.s 0 - 1)) _ c.has.ensures c.if-has.false) in
     (P, P.ran.inside)
-
-pub returns-then-id-eq0 : goal.returns-then-id-eq0
-returns-then-id-eq0 c = (c.loop-self.invariant.0, c.if-id-eq0.true)
 
 pub returns-then-has : goal.returns-then-has
 returns-then-has c =

@@ -2,13 +2,11 @@
 use mathlib.Core.Path.{refl, subst}
 use mathlib.Core.List.{List}
 use Prim.Native.Nat.{ℕ, ◌+◌}
-use native.Mathlib.Omega.{arith}
+use Rattle.std.proofs.Common.{◌∙◌}
+use Rattle.base.specs.Hash.{plain_hash}
 use Rattle.base.specs.Part.{part-lent}
 use Rattle.store.specs.Stored.{nodes, slots_in, slots_for, room_in, Probed}
 use Rattle.store.proofs.nodes.Store.search.Goals as goal
-
-pub hash_words-h-requires : goal.hash_words-h-requires
-hash_words-h-requires c = let E = c.requires.0 in (E.ranged.some, omega (arith, E.ranged.most, E.placed.enough.small))
 
 pub probe-requires : goal.probe-requires
 unfolding slots_in
@@ -19,8 +17,8 @@ probe-requires c =
     record {
       stored = c.requires.0;
       slots_are = part-lent room (room + k) k a.index.now refl;
-      hash_is = c.hash_words-h.ensures.0;
-      below = c.hash_words-h.ensures.1;
+      hash_is = (c.hash-h.ensures.0 ∙ plain_hash _ _);
+      below = c.hash-h.ensures.1;
       some = c.requires.1;
     }
 
@@ -31,5 +29,5 @@ returns c =
     let room : ℕ = room_in a.words.now in
     let k : ℕ = slots_for a.self.hashes in
     let s = nodes a.words.now a.self in
-    subst (λ (h : ℕ). Probed (slots_in a.index.now a.words.now a.self.hashes) s h a.key.now c.probe.result) c.hash_words-h.ensures.0
-    (subst (λ (l : List ℕ). Probed l s c.hash_words-h.result a.key.now c.probe.result) (part-lent room (room + k) k a.index.now refl) c.probe.ensures)
+    subst (λ (h : ℕ). Probed (slots_in a.index.now a.words.now a.self.hashes) s h a.key.now c.probe.result) (c.hash-h.ensures.0 ∙ plain_hash _ _)
+    (subst (λ (l : List ℕ). Probed l s c.hash-h.result a.key.now c.probe.result) (part-lent room (room + k) k a.index.now refl) c.probe.ensures)

@@ -1,7 +1,0 @@
--- `enter` meets its contract.
-use native.Mathlib.Omega.{arith}
-use lib.ListN.{length-set}
-use Rattle.term_lift.proofs.lift.enter.Goals as goal
-
-pub bounds-work-at-2 : goal.bounds-work-at-2
-bounds-work-at-2 c = simp length-set (omega arith)
