@@ -1,6 +1,6 @@
 -- Whether each word is below a number, word by word from a place on.
-use Rattle.std.specs.Prelude.{◌≡◌, refl, true, false, List, ℕ, ◌+◌, ◌≤◌, ◌<◌, ltb, length, get_or, drop}
-use Rattle.std.proofs.Common.{ap, ◌∙◌, add-one, lt-ltb, le-ltb, drop_of_length-le, drop-cons}
+use Rattle.std.specs.Prelude.{◌≡◌, true, false, List, ℕ, ◌+◌, ◌≤◌, ◌<◌, ltb, length, get_or, drop}
+use Rattle.std.proofs.Common.{add-one, lt-ltb, le-ltb, drop_of_length-le, drop-cons}
 use Rattle.definition.specs.Test.{◌and◌, all}
 
 -- one that is not

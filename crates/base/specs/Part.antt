@@ -162,6 +162,10 @@ put-more a n xs ys v l h =
 pub take-copied : (i : ℕ) (xs ys : List ℕ) → i < length xs → i < length ys → take i ys ≡ take i xs → take (i + 1) (set ys i (get_or xs i 0)) ≡ take (i + 1) xs
 take-copied i xs ys h k e = rw (add-one i, take-suc-set ys i (get_or xs i 0) k, take-suc xs i 0 h) (ap (λ (l : List ℕ). l ++ (get_or xs i 0 ∷ [])) e)
 
+-- the same of any cells, where the copied one is x
+pub copied-turn : {A : Type 0} (i : ℕ) (xs ys : List A) (x : A) → i < length xs → i < length ys → x ≡ get_or xs i x → take i ys ≡ take i xs → take (i + 1) (set ys i x) ≡ take (i + 1) xs
+copied-turn i xs ys x h k e p = rw (add-one i, take-suc-set ys i x k, take-suc xs i x h) (ap (λ l. l ++ (x ∷ [])) p ∙ ap (λ y. take i xs ++ (y ∷ [])) e)
+
 -- up to the end of a part
 pub take_put : (a n : ℕ) (xs ys : List ℕ) → a ≤ length xs → length ys ≡ n → take (a + n) (put a n ys xs) ≡ take a xs ++ ys
 take_put a n xs ys h l =

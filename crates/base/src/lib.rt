@@ -2,7 +2,9 @@
 #![tactic(auto)]
 
 pub mod below;
+pub mod copy;
 pub mod hash;
 pub mod id;
 pub mod limit;
+pub mod same;
 pub mod stack;

@@ -12,7 +12,10 @@ fn goal_is_met(pack: &[u8], work: &[u32], c: Catalog, g: usize) -> bool
     requires { (H : Held pack.now work.now c) × (g < length H.pack.goals) }
     ensures { OfHeld pack.now work.now c (λ P. result ≡ met P (get_or P.goals g no_goal)) }
 {
-    goal_step(pack, work, c, g).is_some()
+    match goal_step(pack, work, c, g) {
+        Some(_) => true,
+        None => false,
+    }
 }
 
 // The first goal that is not met, if there is one.

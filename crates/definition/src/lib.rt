@@ -1,8 +1,5 @@
-// What is right: document 01 as definitions on lists. No code but the types that code and definitions share, and a refusal's number and
-// place.
+// What is right: document 01 as definitions on lists. No code; the types that code and definitions share.
 #![tactic(auto)]
-
-pub mod table;
 
 // The refusals of document 01's table, in its order; each but the ninth with its place.
 #[derive(Clone, Copy)]

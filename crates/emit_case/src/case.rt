@@ -10,6 +10,7 @@ use crate::goal::Inducting;
 use crate::intern::intern;
 use crate::suppose::prove_supposing;
 use crate::variables::{case_variables, recursive};
+use base::copy::copy_cells;
 use base::limit::Limit;
 use definition::Refusal;
 use emit_lines::case::Case;
@@ -41,7 +42,7 @@ fn lay_key(c: u32, vs: &[u32], key: &mut [u32]) -> usize
 {
     let n = vs.len() + 1;
     key[0] = c;
-    key[1..n].copy_from_slice(vs);
+    copy_cells(vs, &mut key[1..n]);
     n
 }
 

@@ -7,6 +7,7 @@ ghost use Rattle.emit_premises.specs.Ended.{Ended, Rests, Begins, BuildAsked, Bu
 
 use crate::building::{Building, Opening};
 use crate::turn::{Turn, build_turn};
+use base::copy::copy_cells;
 use emit_match::places::Matching;
 use pack_read::rule::rule_vars;
 use store::nodes::Store;
@@ -83,6 +84,6 @@ pub fn build_premises(
     let b = begin(&mut stack, m.store, premises);
     let x = build_words(pack, work, words, &mut stack, m, r, vars, b);
     let end = Opening::TERMS + premises;
-    qs[0..premises].copy_from_slice(&stack[Opening::TERMS..end]);
+    copy_cells(&stack[Opening::TERMS..end], &mut qs[0..premises]);
     x
 }

@@ -8,6 +8,7 @@ ghost use Rattle.graph.specs.Joins.{Apart, Joins, Shares, Binds, HeadOf};
 ghost use Rattle.graph.specs.Pushes.{Rows, Next, Pushes, arguments_to};
 ghost use Rattle.definition.specs.Store.{nothing};
 
+use base::copy::copy_cells;
 use base::id::{Ground, Node, Pattern};
 
 // How many nodes there are, and how many cells they take.
@@ -209,7 +210,7 @@ impl Graph {
         }
         let first = self.used + 1;
         let end = first + args.len();
-        cells[first..end].copy_from_slice(args);
+        copy_cells(args, &mut cells[first..end]);
         self.push_laid(cells, table, head, end)
     }
 }

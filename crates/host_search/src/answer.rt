@@ -5,6 +5,7 @@ ghost use Rattle.host_search.specs.Ends.{Ends, came_of, Tells, sought_of};
 
 use buffer::zero::fill_from;
 use definition::Answer;
+use dock_call::answer::outcome_answer;
 use emit_state::standing::Proved;
 
 // The answer: 0 and 0 with a line's number and one, or 0 for none, and the text's length; or a refusal's number and place, with 0 and 0.
@@ -29,7 +30,7 @@ pub fn seek(p: Proved) -> Result<(u64, usize), Answer>
     match p {
         Proved::Line(t, n) => Ok((n as u64 + 1, t.text)),
         Proved::Fails(t) => Ok((0, t.text)),
-        Proved::Refused(x) => Err(Answer::from(x)),
+        Proved::Refused(x) => Err(outcome_answer(Err(x))),
     }
 }
 

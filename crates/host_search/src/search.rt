@@ -12,6 +12,7 @@ use crate::asked::{Query, is_asked};
 use crate::judged::intern_judgment;
 use base::id::Ground;
 use definition::{Answer, Buffer, Refusal};
+use dock_call::answer::outcome_answer;
 use dock_call::lent::Lent;
 use dock_call::opening::open_pack;
 use emit_lines::word::Hand;
@@ -74,7 +75,7 @@ fn search_node(
     let l = lifting(work, words, c);
     let empty = open_store(pack, work, words, c, l);
     let Some((j, st)) = intern_judgment(pack, work, words, c, l, empty, Ground(q.node)) else {
-        return Err(Answer::from(Refusal::Short(Buffer::PATTERN)));
+        return Err(outcome_answer(Err(Refusal::Short(Buffer::PATTERN))));
     };
     let places = places_for(words, c, l, q.name);
     search_from(pack, work, words, proof, places, st, j.0, q)
@@ -120,8 +121,10 @@ fn search_pack(
         text: proof.len(),
         goals: 0,
     };
-    open_pack(lent, pack, work)?;
-    search_opened(pack, work, patterns, proof, q)
+    match open_pack(lent, pack, work) {
+        Ok(()) => search_opened(pack, work, patterns, proof, q),
+        Err(r) => Err(outcome_answer(Err(r))),
+    }
 }
 
 // A proof of ground node `node`, a judgment, is searched for at a depth, without classes: L, with so many underscores to its name, is the

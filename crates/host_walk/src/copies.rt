@@ -15,6 +15,7 @@ use crate::list::{Fault, read_list};
 use crate::place::{Stock, lifting, open_store};
 use base::id::{Node, Pattern};
 use definition::Answer;
+use dock_call::answer::outcome_answer;
 use dock_call::lent::Lent;
 use dock_call::opening::open_pack;
 use graph::graph::Graph;
@@ -246,8 +247,10 @@ fn walk_copies(
         text: 0,
         goals: 0,
     };
-    open_pack(lent, pack, work)?;
-    copy_marked(pack, from, work, patterns, cells, flex, p, copies, read)
+    match open_pack(lent, pack, work) {
+        Ok(()) => copy_marked(pack, from, work, patterns, cells, flex, p, copies, read),
+        Err(r) => Err(outcome_answer(Err(r))),
+    }
 }
 
 // Each node in `from` is interned in order, pattern `p` of them is copied `copies` times into one graph, and the last copy is read back

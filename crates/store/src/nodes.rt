@@ -8,8 +8,10 @@ ghost use Rattle.base.specs.Hash.{hash_of};
 ghost use Rattle.store.specs.Words.{key_of};
 ghost use Rattle.store.specs.Stored.{Stored, nodes, Counts, Spans, slots_in, Placed, Entered, Enough, Searching, Probed, Fits, Appended, Adding, Rebuilding, Added, Answer};
 
+use base::copy::copy_cells;
 use base::hash::hash;
 use base::id::Pattern;
+use base::same::same_words;
 
 // How many nodes there are, how many words they take, and below what their hashes are.
 #[derive(Clone, Copy)]
@@ -119,7 +121,7 @@ impl Store {
         requires { Placed index.now words.now self (nodes words.now self) × (i < length (nodes words.now self)) }
         ensures { result ≡ same (key_of (get_or (nodes words.now self) i no_node)) key.now }
     {
-        self.key_at(index, words, i) == key
+        same_words(self.key_at(index, words, i), key)
     }
 
     // The slot that holds the key (`Ok`), or the first free one from its hash on (`Err`).
@@ -167,7 +169,7 @@ impl Store {
         let at = self.used;
         let k = key.len();
         words[at] = (k - 1) as u32;
-        words[at + 1..at + 1 + k].copy_from_slice(key);
+        copy_cells(key, &mut words[at + 1..at + 1 + k]);
         let n = self.len;
         index[n] = at as u32;
         Store {

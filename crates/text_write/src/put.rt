@@ -5,6 +5,7 @@ ghost use Rattle.definition.specs.Decimal.{decimal};
 ghost use Rattle.definition.specs.Shown.{ellipsis, variable_name};
 ghost use Rattle.text_write.specs.Written.{Adds};
 
+use base::copy::copy_cells;
 use buffer::decimal::put_decimal;
 
 // Where a text ends.
@@ -36,7 +37,7 @@ pub fn put_bytes(text: &mut [u8], at: usize, bytes: &[u8]) -> usize
         return Text::SHORT;
     }
     let end = at + bytes.len();
-    text[at..end].copy_from_slice(bytes);
+    copy_cells(bytes, &mut text[at..end]);
     end
 }
 

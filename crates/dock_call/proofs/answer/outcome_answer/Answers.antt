@@ -12,4 +12,4 @@ returns-in-Ok c = sym (ap (λ (o : Result (Unit {0}) Refusal). answer (refusal_o
 
 pub returns-in-Err : goal.returns-in-Err
 unfolding answer
-returns-in-Err c = c.from.ensures ∙ sym (ap (λ (o : Result (Unit {0}) Refusal). answer (refusal_of o)) c.in-Err.is)
+returns-in-Err c = c.refusal_answer.ensures ∙ sym (ap (λ (o : Result (Unit {0}) Refusal). answer (refusal_of o)) c.in-Err.is)

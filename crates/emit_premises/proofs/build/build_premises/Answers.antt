@@ -18,11 +18,11 @@ build_words-x-requires c =
 pub overflow_add-end : goal.overflow_add-end
 overflow_add-end c = omega (arith, c.requires.0.many, (c.requires.0.site.held.proper.good.rules _ c.requires.0.rule).arity)
 
-pub slice_bounds-copy_from_slice-end : goal.slice_bounds-copy_from_slice-end
-slice_bounds-copy_from_slice-end c = omega (arith, c.requires.0.many, (c.requires.0.site.held.proper.good.rules _ c.requires.0.rule).arity, c.build_words-x.auto.stack, c.begin-b.auto.stack)
+pub slice_bounds-copy_cells-end : goal.slice_bounds-copy_cells-end
+slice_bounds-copy_cells-end c = omega (arith, c.requires.0.many, (c.requires.0.site.held.proper.good.rules _ c.requires.0.rule).arity, c.build_words-x.auto.stack, c.begin-b.auto.stack)
 
-pub slice_bounds-copy_from_slice-end-2 : goal.slice_bounds-copy_from_slice-end-2
-slice_bounds-copy_from_slice-end-2 c = omega (arith, c.requires.0.many, (c.requires.0.site.held.proper.good.rules _ c.requires.0.rule).arity, c.requires.1)
+pub slice_bounds-copy_cells-end-2 : goal.slice_bounds-copy_cells-end-2
+slice_bounds-copy_cells-end-2 c = omega (arith, c.requires.0.many, (c.requires.0.site.held.proper.good.rules _ c.requires.0.rule).arity, c.requires.1)
 
 pub returns : goal.returns
 returns c =
@@ -31,6 +31,6 @@ returns c =
     let left = c.build_words-x.new.stack in record {
       built = λ P R Q l e bs M.
           let E = c.build_words-x.ensures.built P R Q l bs M _ [] (begun_amid P Q _ l _ _ _ _ b e) in
-          finished _ left _ _ c.copy_from_slice.ensures.after (rule_of P c.args.r).premises bs _ _ _ e x (subst (λ o. Ends o c.args.words.now c.build_words-x.new.words left x) (begun-whole P Q _ l _ _ _ _ b e bs _) E);
+          finished _ left _ _ c.copy_cells.ensures (rule_of P c.args.r).premises bs _ _ _ e x (subst (λ o. Ends o c.args.words.now c.build_words-x.new.words left x) (begun-whole P Q _ l _ _ _ _ b e bs _) E);
       frame = c.build_words-x.ensures.frame;
     }

@@ -12,4 +12,4 @@ returns-in-Fails c = sym (ap sought_of c.in-Fails.is)
 
 pub returns-in-Refused : goal.returns-in-Refused
 unfolding answer
-returns-in-Refused c = refused_as _ _ c.from.ensures ∙ sym (ap sought_of c.in-Refused.is)
+returns-in-Refused c = refused_as _ _ c.outcome_answer.ensures ∙ sym (ap sought_of c.in-Refused.is)

@@ -45,4 +45,4 @@ unfolding answer
 returns-in_default c =
     let i = c.intern_judgment in
     let J = rw c.in_default.is at i.ensures in
-    node_short c.args.pack.now c.args.work.now c.args.words.now _ c.args.c c.args.q c.requires _ c.lifting-l.ensures _ _ c.open_store-empty.ensures i.new.work i.new.words i.auto.words J c.args.proof.now _ (refused_as (ShortOf 2) c.from.result c.from.ensures)
+    node_short c.args.pack.now c.args.work.now c.args.words.now _ c.args.c c.args.q c.requires _ c.lifting-l.ensures _ _ c.open_store-empty.ensures i.new.work i.new.words i.auto.words J c.args.proof.now _ (refused_as (ShortOf 2) c.outcome_answer.result c.outcome_answer.ensures)

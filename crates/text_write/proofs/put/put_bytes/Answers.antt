@@ -4,4 +4,4 @@ use Rattle.text_write.specs.Written.{adds_copied}
 use Rattle.text_write.proofs.put.put_bytes.Goals as goal
 
 pub returns : goal.returns
-returns c = adds_copied _ _ _ _ _ (omega arith) c.copy_from_slice.ensures.after (omega arith) (omega arith)
+returns c = adds_copied _ _ _ _ _ (omega arith) c.copy_cells.ensures (omega arith) (omega arith)

@@ -20,6 +20,6 @@ unfolding part
 returns c =
     let a = c.args in
     let h = leb-false (length a.cells.now - a.self.used) (length a.args.now) (sym c.lacks_room.ensures ∙ c.if-lacks_room.false) in
-    let v = c.copy_from_slice in
+    let v = c.copy_cells in
     let u = c.push_laid in
-    filled-pushed a.cells.now a.table.now v.new.self a.self _ c.requires (omega arith) (omega (arith, h)) v.auto.self u.new.cells u.new.table a.args.now a.head v.ensures.after u.result u.ensures
+    filled-pushed a.cells.now a.table.now v.new.to a.self _ c.requires (omega arith) (omega (arith, h)) v.auto.to u.new.cells u.new.table a.args.now a.head v.ensures u.result u.ensures

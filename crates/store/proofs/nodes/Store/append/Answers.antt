@@ -29,6 +29,6 @@ returns c =
     record {
       state = refl;
       index_is = refl;
-      words_are = put-lent (u + 1) (u + 1 + k) k (set a.words.now u (k - 1)) _ a.key.now refl c.copy_from_slice.ensures.after
+      words_are = put-lent (u + 1) (u + 1 + k) k (set a.words.now u (k - 1)) _ a.key.now refl c.copy_cells.ensures
           ∙ append-words (nodes a.words.now a.self) a.words.now a.key.now u F.placed.begins F.placed.used F.some F.fits;
     }

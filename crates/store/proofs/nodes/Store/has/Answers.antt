@@ -2,9 +2,8 @@
 use mathlib.Core.Path.{ap, ◌∙◌}
 use mathlib.Core.List.{List}
 use Prim.Native.Nat.{ℕ}
-use Rattle.base.specs.Same.{same_is}
 use Rattle.definition.specs.Test.{same}
 use Rattle.store.proofs.nodes.Store.has.Goals as goal
 
 pub returns : goal.returns
-returns c = (c.eq.ensures ∙ same_is _ _) ∙ ap (λ (l : List ℕ). same l c.args.key.now) c.key_at.ensures
+returns c = c.same_words.ensures ∙ ap (λ (l : List ℕ). same l c.args.key.now) c.key_at.ensures
