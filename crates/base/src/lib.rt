@@ -1,4 +1,4 @@
-// Words in parts of lent buffers: ids, a hash, a stack.
+// Parts of lent buffers, their words compared and their cells copied; ids, a hash, a stack.
 #![tactic(auto)]
 
 pub mod below;

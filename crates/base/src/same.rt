@@ -2,7 +2,8 @@
 ghost use Rattle.std.specs.Prelude.{◌≡◌};
 ghost use Rattle.definition.specs.Test.{same};
 
-// The same words in the same order. A loop, since keys are a few words long, and the library's `==` makes a call for most of them.
+// The same words in the same order. A loop, since keys are a few words long, and the library's `==` makes a call wherever the first words
+// are the same.
 pub fn same_words(a: &[u32], b: &[u32]) -> bool
     ensures { result ≡ same a.now b.now }
 {
